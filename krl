@@ -60,7 +60,7 @@ The server and its client, over TCP and SQLite:
   serve [OPTIONS]    Serve the table of krl.db in this folder at 127.0.0.1:7400; without options,
                      make the table if there is none
   client [WORDS]     Read and write a server's table; without a command, at a prompt
-  doctor             Print what a build of them needs, and what of it is missing: status 0 or 1
+  doctor             Print what a build of them needs, and what is missing: status 0 or 1
 
 The simulator, in which a world of one server and up to 64 clients runs in one process:
   script  Run a script from standard input, and write its transcript to standard output
@@ -69,9 +69,9 @@ The simulator, in which a world of one server and up to 64 clients runs in one p
           after --prove
 
 Options:
-  --prove        Prove first: for serve and client the library, else the simulator. Then run what
-                 follows, if something does
-  -h, --help     Print this; after serve, client, script, random or nodes print the help of that
+  --prove        Prove first: the library for serve and client, otherwise the simulator. Then run
+                 the command, if one follows
+  -h, --help     Print this; after serve, client, script, random or nodes, print its help
   -V, --version  Print the version of the simulator
 
 The server and the client are built in a minute or two, once, over a proved library that comes with

@@ -199,7 +199,7 @@ static void read_rows(krl_handle *client, krl_handle *server) {
 /* Client 3 holds RangeX-X from 11 to 15. It gives back a part of that at 15, and nothing of any other point. */
 static void give_back_a_part(krl_handle *client) {
     krl_reply reply;
-    want(krl_client_lower(client, 15, 16, KRL_RANGE_X_X + 1).code == KRL_BAD_MODE, "a mode that is none");
+    want(krl_client_lower(client, 15, 16, KRL_RANGE_X_X + 1).code == KRL_BAD_MODE, "it is not a mode");
     want(krl_client_lower(client, 16, 16, KRL_N).code == KRL_BAD_SPAN, "a span of no point");
     AGAIN(reply, krl_client_lower(client, 15, 16, KRL_RANGE_S_S));
     krl_held held = krl_client_held(client, 15), next = krl_client_held(client, 16);

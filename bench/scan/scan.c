@@ -95,7 +95,7 @@ static uint64_t nanos(void)
     return (uint64_t)now.tv_sec * 1000000000 + (uint64_t)now.tv_nsec;
 }
 
-/* One scan of this many rows; the ranges of two scans, one after the other, are no neighbours. */
+/* One scan of this many rows; the ranges of two scans, one after the other, are no neighbors. */
 static void scan(uint64_t turn, uint64_t count)
 {
     static krl_row rows[SCAN];

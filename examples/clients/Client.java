@@ -66,7 +66,7 @@ public class Client {
 
     public static void main(String[] words) {
         PointerByReference joined = new PointerByReference(), taken = new PointerByReference();
-        checked(connect(words[0], joined)); // by the first free number
+        checked(connect(words[0], joined)); // takes the first free number
         Pointer client = joined.getValue();
         System.out.println("client " + KRL.krlc_number(client));
 

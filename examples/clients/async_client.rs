@@ -39,7 +39,7 @@ async fn main() -> Result<(), Box<dyn std::error::Error>> {
     Ok(())
 }
 
-/// To join waits, so it takes a thread that may wait.
+/// Joining blocks, so it needs a thread that may block.
 async fn connect(servers: Servers) -> Result<Client, Box<dyn std::error::Error>> {
     Ok(tokio::task::spawn_blocking(|| Client::connect(servers)).await??)
 }

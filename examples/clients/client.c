@@ -24,7 +24,7 @@ static void show(const char *what, const krlc_rows *rows) {
 int main(int count, char **words) {
     krlc_options options = {.size = sizeof options, .servers = count > 1 ? words[1] : ""};
     krlc_client *client;
-    checked(krlc_join(&options, &client, &error));              /* by the first free number */
+    checked(krlc_join(&options, &client, &error));              /* takes the first free number */
     printf("client %u\n", (unsigned)krlc_number(client));
 
     krlc_row row;

@@ -12,7 +12,7 @@ void show(std::string_view what, const krl::rows &rows) {
 int main(int count, char **words) try {
     krl::options options;
     options.servers = count > 1 ? words[1] : "";
-    krl::client client(options);                                // by the first free number
+    krl::client client(options);                                // takes the first free number
     std::cout << "client " << client.number() << '\n';
 
     std::cout << "get: " << client.get(15).value_or("no row") << '\n';

@@ -45,7 +45,7 @@ func connect(servers string) (client *C.krlc_client, code C.uint32_t) {
 }
 
 func main() {
-	client, code := connect(os.Args[1]) // by the first free number
+	client, code := connect(os.Args[1]) // takes the first free number
 	checked(code)
 	fmt.Println("client", C.krlc_number(client))
 

@@ -8,7 +8,7 @@ def show(what, rows):
     print("\n".join(f"{what}: {key}={value.decode()}" for key, value in rows) or f"{what}: no row")
 
 
-with krl.connect(sys.argv[1]) as client:                # by the first free number
+with krl.connect(sys.argv[1]) as client:                # takes the first free number
     print("client", client.number)
 
     value = client.get(15)                              # None if there is no row

@@ -3,7 +3,7 @@ use krl::{Client, Outcome, Row, Servers, Value};
 
 fn main() -> Result<(), Box<dyn std::error::Error>> {
     let servers: Servers = std::env::args().nth(1).ok_or("which server?")?.parse()?;
-    let client = Client::connect(servers)?; // by the first free number
+    let client = Client::connect(servers)?; // takes the first free number
     println!("client {}", client.number());
 
     println!("get: {}", client.get(15)?.map_or("no row".into(), text));

@@ -35,7 +35,7 @@
 /* How long the worker waits before it starts a server again that has ended. */
 #define PAUSE_MS 1000
 
-/* How long a server may take to stop in order. */
+/* How long a server may take to shut down cleanly. */
 #define STOP_MS 5000
 
 #define IDLE_MS 1000
@@ -196,7 +196,7 @@ notice_end(void)
 	return true;
 }
 
-/* Stops the server in order, unless PostgreSQL itself was killed. */
+/* Shuts the server down cleanly, unless PostgreSQL itself was killed. */
 static void
 stop_server(void)
 {

@@ -121,7 +121,7 @@ integer_of(Datum value, Oid type)
 		default:
 			ereport(ERROR,
 					(errcode(ERRCODE_DATATYPE_MISMATCH),
-					 errmsg("the key of the cached table is no integer any more"),
+					 errmsg("the key of the cached table is no longer an integer"),
 					 errhint("Call krl.uncache and krl.cache.")));
 	}
 }

@@ -26,10 +26,10 @@ const TIMEOUT: Duration = Duration::from_secs(30);
 /// The numbers of krl's clients that readers take, by default: the extension has those from 56 on.
 const NUMBERS: Range<u8> = 0..56;
 
-/// So many connections are kept for later calls.
+/// This many connections are kept for later calls.
 const MOST_IDLE: usize = 16;
 
-/// So many misses wait for the loader. It learns of no further ones.
+/// This many misses wait for the loader. It learns of no further ones.
 const MOST_ERRANDS: usize = 256;
 
 /// The tables that a process reads: it is one client of krl.
@@ -72,13 +72,13 @@ pub(crate) struct Shared {
 }
 
 impl CacheBuilder {
-    /// The user who connects to the database, by this password.
+    /// The user that connects to the database, with this password.
     pub fn user(self, name: &str, password: &str) -> CacheBuilder {
         CacheBuilder { user: Some((name.to_string(), password.to_string())), ..self }
     }
 
-    /// What the process shows to krl's servers if they listen by TLS, and whom it believes. The
-    /// connection to the database is by TLS if its address asks for it.
+    /// What the process shows to krl's servers if they listen over TLS, and whom it trusts. The
+    /// connection to the database uses TLS if its address requests it.
     pub fn tls(mut self, config: TlsConfig) -> CacheBuilder {
         self.krl.tls = Some(config);
         self
@@ -92,12 +92,12 @@ impl CacheBuilder {
     }
 
     /// About how many bytes of rows are kept of each table: 64 MiB by default. If there are more,
-    /// rows that were not read lately are dropped.
+    /// rows that were not read recently are dropped.
     pub fn memory(self, bytes: usize) -> CacheBuilder {
         CacheBuilder { memory: bytes, ..self }
     }
 
-    /// How long a read waits for an answer of the database: 30 seconds by default.
+    /// How long a read waits for an answer from the database: 30 seconds by default.
     pub fn timeout(self, timeout: Duration) -> CacheBuilder {
         CacheBuilder { timeout, ..self }
     }
@@ -145,8 +145,8 @@ impl Cache {
         Table::open(Arc::clone(&self.shared), self.errands.clone(), name)
     }
 
-    /// Why the last rows that should be kept were not, if krl or the extension is away: a sentence.
-    /// Reads are answered by the database meanwhile.
+    /// Why the last rows that should be kept were not, as a sentence, if krl or the extension is
+    /// away. Meanwhile the database answers the reads.
     #[must_use]
     pub fn fault(&self) -> Option<String> {
         self.shared.fault().clone()
@@ -162,8 +162,8 @@ impl Cache {
 }
 
 impl Shared {
-    /// Asks the database by a connection that waits, and once again by a new one if that fails: it
-    /// may have ended, or its statements may be those of other columns.
+    /// Asks the database over a connection that is free, and once again over a new one if that
+    /// fails: it may have ended, or its statements may be those of other columns.
     pub fn ask<T>(
         &self,
         ask: impl Fn(&mut Session) -> Result<T, ReadError>,

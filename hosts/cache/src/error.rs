@@ -42,7 +42,7 @@ impl ReadError {
         ReadError::Column(format!("the table has no column \"{name}\""))
     }
 
-    /// The value of a column and the type in the program don't fit.
+    /// The value of a column does not fit the type in the program.
     pub(crate) fn misfit(column: &Column, why: &dyn fmt::Display) -> ReadError {
         let (name, sql_type) = (column.name(), column.sql_type());
         ReadError::Column(format!(

@@ -1,4 +1,4 @@
-//! Reads tables of PostgreSQL from memory, while any SQL writes them, and no read is stale.
+//! Reads tables of PostgreSQL from memory while any SQL writes them, and no read is stale.
 //!
 //! The database has the extension `krl` (`hosts/pgext`). A read from memory returns what a `SELECT`
 //! would return at one moment of the call, whoever writes: `psql`, `COPY`, cascades of foreign keys,
@@ -38,7 +38,7 @@
 //! transaction is about to change it, and loads the row to keep it. A row whose stripe is held
 //! already is kept at once, with that one round trip. With a miss the thread loads again what was
 //! read before others took it back, of up to 32 stripes. A stripe that is taken back again and
-//! again before its rows were read is held ever less often, until it has been read.
+//! again before its rows were read is held less and less often, until it has been read.
 //!
 //! # What is away
 //!
@@ -48,9 +48,9 @@
 //!
 //! # Threads
 //!
-//! All calls may be made from several threads at once. They wait for the database by runtimes of
-//! their own, and so panic on a thread on which a runtime of tokio runs: call them from
-//! `spawn_blocking` there.
+//! All calls may be made from several threads at once. They wait for the database in runtimes of
+//! their own, and so panic on a thread on which a runtime of tokio runs: there, call them from
+//! `spawn_blocking`.
 mod cache;
 mod definition;
 mod error;

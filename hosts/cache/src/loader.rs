@@ -17,14 +17,14 @@ use std::time::{Duration, Instant};
 /// The pause before another attempt to join krl.
 const PAUSE: Duration = Duration::from_millis(500);
 
-/// So many rows are loaded at once. Others are, when they are missed again.
+/// This many rows are loaded at once. Others are, when they are missed again.
 const MOST_KEYS: usize = 4096;
 
-/// Of so many stripes that were lost rows are loaded with a miss, and so many rows.
+/// Of this many stripes that were lost rows are loaded with a miss, and this many rows.
 const MOST_AHEAD: usize = 32;
 const MOST_KEYS_AHEAD: usize = 256;
 
-/// So many stripes that were called back are remembered.
+/// This many stripes that were called back are remembered.
 const MOST_CALLED_BACK: usize = 1024;
 
 /// What the loader is to do.

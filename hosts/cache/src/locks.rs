@@ -12,8 +12,8 @@ pub(crate) const CLUSTER_MARK: u64 = 1 << 40;
 const JOIN: Duration = Duration::from_secs(5);
 const HOLD: Duration = Duration::from_secs(2);
 
-/// So many stripes that nobody asked for are held between two that somebody did, so that a request
-/// holds more. Nobody keeps rows of them, so their writers wait for nothing.
+/// This many stripes that nobody asked for are held between two that somebody did, so that a
+/// request holds more. Nobody keeps rows of them, so their writers wait for nothing.
 const GAP: u64 = 16;
 
 /// The locks that this process holds, as one client of krl.

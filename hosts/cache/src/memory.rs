@@ -59,7 +59,7 @@ impl Rows {
 }
 
 impl Memory {
-    /// Memory for a table of so many stripes.
+    /// Memory for a table of this many stripes.
     pub fn new(stripes: u32, limit: usize) -> Memory {
         let stripes = (0..stripes).map(|_| RwLock::default()).collect();
         let (bytes, keys, hand) = <(AtomicUsize, AtomicUsize, AtomicUsize)>::default();

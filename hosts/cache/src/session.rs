@@ -17,7 +17,7 @@ const SETTINGS: &str = "
     SET default_transaction_isolation = 'read committed';
     SET client_min_messages = error;";
 
-/// So many statements are kept: a table has a few, and new ones when its columns change.
+/// This many statements are kept: a table has a few, and new ones when its columns change.
 const MOST_STATEMENTS: usize = 256;
 
 /// A connection. One thread at a time uses it.

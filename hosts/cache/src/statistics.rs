@@ -58,7 +58,7 @@ pub struct Statistics {
     ///
     /// [`Cache::fault`]: crate::Cache::fault
     pub away: u64,
-    /// Keys whose rows were dropped as there was no room for them.
+    /// Keys whose rows were dropped because there was no room for them.
     pub evictions: u64,
     /// Keys whose rows are in memory now; of some of them it is known that there are none.
     pub keys: u64,

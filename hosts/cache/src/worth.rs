@@ -1,6 +1,6 @@
 //! Whether a stripe is worth being held.
 
-/// After so many losses in a row nothing is worth less.
+/// After this many losses in a row nothing is worth less.
 const MOST_UNREAD: u8 = 6;
 
 /// Judges by what has become of a stripe. One whose rows are lost again and again before anybody has

@@ -173,7 +173,8 @@ typedef struct krlcache_options {
     /* Where the database is, without a password: "postgres://shop@127.0.0.1:5432/shop". A host on another machine takes
      * `?sslmode=verify-full` or another mode. */
     const char *database;
-    /* The user who connects, and the password: both or none. By default the user of the address, without a password. */
+    /* The user that connects, and the password: both or none. By default the user of the address, without a password.
+     * */
     const char *user;
     const char *password;
     /* The folder of the lock files by which processes of this machine keep off each other's numbers of krl's clients.
@@ -186,9 +187,9 @@ typedef struct krlcache_options {
     uint32_t end_number;
     /* About how many bytes of rows are kept of each table: 64 MiB by default. */
     uint64_t memory;
-    /* How long a read waits for an answer of the database, in milliseconds: 30,000 by default. */
+    /* How long a read waits for an answer from the database, in milliseconds: 30,000 by default. */
     uint64_t timeout_ms;
-    /* What the process shows to krl's servers if they listen by TLS, as PEM: the authority's certificate, this side's
+    /* What the process shows to krl's servers if they listen over TLS, as PEM: the authority's certificate, this side's
      * certificate and its key. All of them or none are null. */
     const char *tls_authority;
     const char *tls_certificate;
@@ -209,7 +210,7 @@ typedef struct krlcache_statistics {
     uint64_t unkept;
     /* Misses while krl or the extension was away: `krlcache_fault` reports why. */
     uint64_t away;
-    /* Keys whose rows were dropped as there was no room for them. */
+    /* Keys whose rows were dropped because there was no room for them. */
     uint64_t evictions;
     /* Keys whose rows are in memory now, and about how many bytes they take. */
     uint64_t keys;
@@ -258,7 +259,7 @@ KRLCACHE_NODISCARD uint32_t krlcache_statistics_of(krlcache_table *table, krlcac
  * KRLCACHE_MISUSE, KRLCACHE_BAD_KEY, KRLCACHE_FORKED; and of those that ask the database, KRLCACHE_DATABASE and
  * KRLCACHE_SYSTEM. */
 
-/* Reads the row of a key of so many columns: 0 is its place. Answers: KRLCACHE_ABSENT if there is none. Errors:
+/* Reads the row of a key with this many columns: its place is 0. Answers: KRLCACHE_ABSENT if there is none. Errors:
  * KRLCACHE_SEVERAL_ROWS too. */
 KRLCACHE_NODISCARD uint32_t krlcache_get(krlcache_table *table, const krlcache_value *key, size_t columns,
                                          krlcache_rows *rows, krlcache_error *error);

@@ -99,7 +99,7 @@ inline std::uint32_t answered(std::uint32_t code, const krlcache_error &failed) 
     return code;
 }
 
-/* Frees what a call has made, as `std::unique_ptr` asks for it. */
+/* Frees what a call has made: a deleter for `std::unique_ptr`. */
 template <auto Free> struct freed_by {
     template <class T> void operator()(T *made) const noexcept { Free(made); }
 };

@@ -23,7 +23,7 @@ pub struct GivenValue {
     pub length: usize,
 }
 
-/// The key of so many columns.
+/// The key of this many columns.
 ///
 /// # Safety
 ///
@@ -33,7 +33,7 @@ pub unsafe fn key(at: *const GivenValue, columns: usize) -> Result<Key, Fault> {
     unsafe { key_of(values(at, columns)?) }
 }
 
-/// So many keys of so many columns each.
+/// This many keys of this many columns each.
 ///
 /// # Safety
 ///
@@ -95,7 +95,7 @@ unsafe fn value_of(given: &GivenValue) -> Result<KeyValue, Fault> {
             })?;
             Ok(bytes.into())
         }
-        kind => Err(Fault::misuse(format!("{kind} is no kind of a value: it is 0, 1 or 2"))),
+        kind => Err(Fault::misuse(format!("{kind} is not a kind of value: it is 0, 1 or 2"))),
     }
 }
 

@@ -71,7 +71,7 @@ class error : public std::runtime_error {
     int shard() const noexcept { return shard_; }
     /* With KRLC_UNSERVED and KRLC_NOT_MADE, why the server does not serve the client, if it gave a reason. */
     krlc_reason reason() const noexcept { return reason_; }
-    /* Whether a write that failed so may have been applied, or may still be: a read of the key shows it. */
+    /* Whether a write that failed with it may have been applied, or may still be: a read of the key shows it. */
     bool is_unknown_outcome() const noexcept { return krlc_is_unknown_outcome(code_); }
 
   private:
@@ -141,7 +141,7 @@ template <class T> using answer = T;
 
 namespace detail {
 
-/* What a call answers, or its error. */
+/* What a call returns, or its error. */
 template <class Make>
 answer<std::invoke_result_t<Make>> answered(std::uint32_t code, const krlc_error &failed, Make make) {
     if (code > KRLC_ANSWERS) {
@@ -180,7 +180,7 @@ inline std::uint64_t milliseconds(std::chrono::milliseconds time) {
 
 inline const char *or_null(const std::string &text) { return text.empty() ? nullptr : text.c_str(); }
 
-/* Frees what a call has made, as `std::unique_ptr` asks for it. */
+/* Frees what a call has made: a deleter for `std::unique_ptr`. */
 template <auto Free> struct freed_by {
     template <class T> void operator()(T *made) const noexcept { Free(made); }
 };
@@ -214,7 +214,7 @@ class rows {
     using const_iterator = iterator;
     using value_type = row;
 
-    /* Rows for which memory was refused and nothing could be thrown are refused by KRLC_MISUSE. */
+    /* Rows that got no memory where nothing can be thrown: a call refuses them with KRLC_MISUSE. */
     rows() : room_(krlc_rows_new()) {
 #ifndef KRL_EXPECTED
         if (!room_)
@@ -240,7 +240,7 @@ class rows {
     std::unique_ptr<krlc_rows, detail::freed_by<krlc_rows_free>> room_;
 };
 
-/* Several writes that are made in one wait, as `krlc_write_all`, and what became of each. */
+/* Several writes that are made in one call, as `krlc_write_all`, and what became of each. */
 class batch {
   public:
     batch &insert(std::uint64_t key, std::string_view value) { return add(KRLC_INSERT, key, value); }
@@ -493,7 +493,7 @@ class client {
         return detail::judged(krlc_delete(client_.get(), key, detail::milliseconds(time), &failed), failed);
     }
 
-    /* Makes the writes of the batch in one wait: `batch::at` shows what became of each, also after an error. */
+    /* Makes the writes of the batch in one call: `batch::at` shows what became of each, also after an error. */
     answer<void> write_all(batch &writes, timeout time = {}) {
         return done(krlc_write_all, writes.data(), writes.size(), detail::milliseconds(time));
     }
@@ -536,7 +536,7 @@ class client {
         return done(krlc_forget, lo, hi, detail::milliseconds(time));
     }
 
-    /* The client's number, which one of `numbers` was free. */
+    /* The client's number: the one of `numbers` that was free. */
     [[nodiscard]] std::uint32_t number() const noexcept { return krlc_number(client_.get()); }
     /* What the client shows of each shard that it has joined, or of its one server. */
     [[nodiscard]] answer<std::vector<krlc_status>> status() const {
@@ -559,7 +559,7 @@ class client {
     krlc_client *get() const noexcept { return client_.get(); }
 
   private:
-    /* A call of C that answers nothing. */
+    /* A call of C that returns only a code. */
     template <class Call, class... Words> answer<void> done(Call call, Words... words) {
         krlc_error failed;
         return detail::answered(call(client_.get(), words..., &failed), failed, [] {});

@@ -120,7 +120,7 @@ typedef enum krlc_code {
     KRLC_BAD_NUMBER = 20,
     /* The text of the servers is not a list of addresses; or what answers at the only one is not a krl server. */
     KRLC_BAD_ADDRESS = 21,
-    /* The map of shards cannot be read, or is not one. */
+    /* The file of the map of shards cannot be read, or is not a map. */
     KRLC_BAD_MAP = 22,
     /* A file for TLS cannot be read or does not fit the others; or the library was built without TLS. */
     KRLC_BAD_TLS = 23,
@@ -147,7 +147,7 @@ typedef enum krlc_code {
     KRLC_STORE_WENT_BACK = 42,
     /* The client's lease ended during the write: the client drops its cache and its pins, and joins again. */
     KRLC_LEASE_ENDED = 43,
-    /* The client's thread has ended by a fault of the library. */
+    /* The client's thread has ended because of a fault of the library. */
     KRLC_STOPPED = 44,
     /* A fault of the library, which is printed on standard error. */
     KRLC_INTERNAL = 45,
@@ -270,13 +270,13 @@ typedef struct krlc_options {
      * `map` or `numbers`, an existing folder for such files: one for each number and each shard. If it is null, and
      * `number` and `numbers` are 0, the client takes the first number that is free, by a lock file in the folder `krl`
      * of $XDG_STATE_HOME or of $HOME/.local/state, which is made if there is none. This is for servers with leases: a
-     * server without them cannot tell a silent client of another machine from one that is gone. */
+     * server without them cannot distinguish a silent client of another machine from one that is gone. */
     const char *lock_file;
     /* The client's number, from 0 to 63: one process at a time may be the client of a number. */
     uint32_t number;
     /* In place of `number`, several numbers, of which the client takes the first that is free. Each is a bit: 1 << 3 is
-     * for the number 3. A number whose lock file another process has is left for the next one at once, and one that
-     * another process has by the server's report after a second. */
+     * for the number 3. A number whose lock file another process has is skipped at once, and one that the server
+     * reports as in use is skipped after a second. */
     uint64_t numbers;
     /* How long a call waits for an answer, in milliseconds, at most a year: 15,000 by default. */
     uint64_t timeout_ms;
@@ -290,8 +290,8 @@ typedef struct krlc_options {
     const char *tls_key;
     /* The table's name in certificates: none by default. */
     const char *table;
-    /* With `map`, the range of keys for which the client is: it joins only the shards that have some of them. All keys
-     * by default, which is also 0 and 0. */
+    /* With `map`, the range of keys that the client uses: it joins only the shards that have some of them. All keys by
+     * default, which is also 0 and 0. */
     uint64_t lo;
     uint64_t hi;
 } krlc_options;
@@ -360,7 +360,7 @@ KRLC_NODISCARD uint32_t krlc_set_timeout(krlc_client *client, uint64_t timeout_m
 KRLC_NODISCARD uint32_t krlc_keep_all(krlc_client *client, krlc_error *error);
 
 /* From now on the client follows the file `map` of its options: it continues by each map that it finds there whose
- * version is greater. Calls at shards that the next map has as they are notice nothing; calls at the others wait, and
+ * version is greater. Calls at shards that are the same in the next map notice nothing; calls at the others wait, and
  * are made by the next map. A pin no longer holds at a shard that has changed. Errors: KRLC_MISUSE if the client has no
  * map with a version; KRLC_NO_THREAD. */
 KRLC_NODISCARD uint32_t krlc_follow(krlc_client *client, krlc_error *error);
@@ -447,8 +447,8 @@ KRLC_NODISCARD uint32_t krlc_insert(krlc_client *client, uint64_t key, const voi
 KRLC_NODISCARD uint32_t krlc_put(krlc_client *client, uint64_t key, const void *bytes, size_t length,
                                  uint64_t timeout_ms, krlc_error *error);
 
-/* Gives a key this value, whether or not it has a row. It is a put, and an insert if there is no row; and so on by
- * turns, as long as other clients make and delete the row in between. All its writes together take `timeout_ms` at
+/* Gives a key this value, whether or not it has a row. It is a put, and an insert if there is no row; and so on in
+ * turn, for as long as other clients make and delete the row in between. All its writes together take `timeout_ms` at
  * most. Answers: KRLC_OK, or KRLC_FULL if there was no row and there is no room for one. */
 KRLC_NODISCARD uint32_t krlc_set(krlc_client *client, uint64_t key, const void *bytes, size_t length,
                                  uint64_t timeout_ms, krlc_error *error);
@@ -456,7 +456,7 @@ KRLC_NODISCARD uint32_t krlc_set(krlc_client *client, uint64_t key, const void *
 /* Deletes a row. */
 KRLC_NODISCARD uint32_t krlc_delete(krlc_client *client, uint64_t key, uint64_t timeout_ms, krlc_error *error);
 
-/* Makes several writes in one wait, one after the other: their outcomes are written to `writes`. A write whose outcome
+/* Makes several writes in one call, one after the other: their outcomes are written to `writes`. A write whose outcome
  * is KRLC_EXISTS, KRLC_ABSENT or KRLC_FULL ends no other one, and the call returns KRLC_OK. It is not a transaction:
  * other clients may see the first writes without the others, also after a crash, and may write in between. With a map,
  * the writes of each shard are made in their order, and those of all shards at the same time. All writes together take
@@ -503,8 +503,9 @@ KRLC_NODISCARD uint32_t krlc_pin_set(krlc_pin *pin, uint64_t key, const void *by
                                      uint64_t timeout_ms, krlc_error *error);
 KRLC_NODISCARD uint32_t krlc_pin_delete(krlc_pin *pin, uint64_t key, uint64_t timeout_ms, krlc_error *error);
 
-/* Makes several writes as `krlc_write_all` does, each while the pin holds, or never. By a pin of `krlc_pin_for_write`,
- * writes in its range ask for no locks. Errors: those of `krlc_write_all`, and KRLC_PIN_IS_VOID. */
+/* Makes several writes as `krlc_write_all` does, each while the pin holds, or never. With a pin of
+ * `krlc_pin_for_write`, writes in its range ask for no locks. Errors: those of `krlc_write_all`, and KRLC_PIN_IS_VOID.
+ * */
 KRLC_NODISCARD uint32_t krlc_pin_write_all(krlc_pin *pin, krlc_write *writes, size_t count, uint64_t timeout_ms,
                                            krlc_error *error);
 
@@ -512,11 +513,11 @@ KRLC_NODISCARD uint32_t krlc_pin_write_all(krlc_pin *pin, krlc_write *writes, si
  * client was freed before, its last pin may wait a second for servers that do not answer. */
 void krlc_pin_free(krlc_pin *pin);
 
-/* Readers. A reader is no client: it has no number, no lock file and no lease, and keeps nothing. Each call asks the
- * server, and waits for the timeout of the reader's options at most. A reader follows the file `map` of its options:
- * if a server does not answer or is of another shard, it asks by the next map that it finds there. A server takes
- * 1,024 readers next to its clients. Threads that call one reader take turns. A reader is its own process', as a
- * client is. */
+/* Readers. A reader is not a client: it has no number, no lock file and no lease, and keeps nothing. Each call asks the
+ * server, and waits for the timeout of the reader's options at most. A reader follows the file `map` of its options: if
+ * a server does not answer or is of another shard, it asks by the next map that it finds there. A server takes 1,024
+ * readers next to its clients. Threads that call one reader take turns. A reader belongs to its process, as a client
+ * does. */
 
 /* Connects a reader by `servers` or `map`, `timeout_ms` and the options for TLS; with a map to the shards of the keys
  * from `lo` on below `hi`. It is freed by `krlc_reader_free`. Errors: KRLC_MISUSE, also if an option is set that only

@@ -48,12 +48,13 @@ extern "C" {
 /* A client. */
 typedef struct krlh_client krlh_client;
 
-/* How a client is opened. A caller sets `size` to the size of this struct, and what it has no wish for to zero. */
+/* How a client is opened. A caller sets `size` to the size of this struct, and the members that it does not use to
+ * zero. */
 typedef struct krlh_options {
     size_t size;
     /* The lock file of this number on this machine, which is made if there is none. */
     const char *lock_file;
-    /* The shard that the client takes its servers for, as "0..100@1": its keys, and the version of its map. Null
+    /* The shard whose servers the client expects, such as "0..100@1": its keys, and the version of its map. Null
      * without a map. */
     const char *shard;
     /* The client's number, from 0 to 63: one process at a time may be the client of a number. */
@@ -77,8 +78,8 @@ typedef struct krlh_answer {
     const char *sentence;
 } krlh_answer;
 
-/* How a call is answered. From the moment `deadline` on it is answered by KRLC_TIMED_OUT, or by KRLC_UNSERVED if the
- * server has given its reason; KRLH_NEVER stands for no deadline. */
+/* How a call is answered. From the moment `deadline` on it is answered with KRLC_TIMED_OUT, or with KRLC_UNSERVED if
+ * the server has given its reason; KRLH_NEVER stands for no deadline. */
 typedef struct krlh_asked {
     void (*answered)(void *context, const krlh_answer *answer);
     void *context;
@@ -94,11 +95,11 @@ typedef enum krlh_purpose { KRLH_FOR_READ = 0, KRLH_FOR_UPDATE = 1, KRLH_FOR_WRI
 /* The client and its connection. */
 
 /* Opens a client, which has its lock file from then on, and keeps all that it reads until another client wants to write
- * it. Errors: KRLC_MISUSE, KRLC_BAD_NUMBER, KRLC_LOCK_FILE,
- * KRLC_LOCK_FILE_TAKEN, KRLC_OUT_OF_MEMORY. Then `client` is null. */
+ * it. Errors: KRLC_MISUSE, KRLC_BAD_NUMBER, KRLC_LOCK_FILE, KRLC_LOCK_FILE_TAKEN, KRLC_OUT_OF_MEMORY. Then `client` is
+ * null. */
 KRLC_NODISCARD uint32_t krlh_open(const krlh_options *options, uint64_t now, krlh_client **client, krlc_error *error);
 
-/* Frees a client, and returns what waits by KRLC_LEFT. A client that has not left keeps its locks at the server until
+/* Frees a client, and answers what waits with KRLC_LEFT. A client that has not left keeps its locks at the server until
  * its lease ends, or until the next client of its number joins. A null pointer and a freed client change nothing. */
 void krlh_free(krlh_client *client);
 
@@ -132,7 +133,7 @@ void krlh_sent(krlh_client *client, size_t length);
 /* The connection has ended, or was not made. Returns the moment at which to make the next one. */
 uint64_t krlh_disconnected(krlh_client *client, uint64_t now);
 
-/* Calls. Each begins something: `call`, which may be null, receives its number. Errors, by which nothing begins:
+/* Calls. Each begins something: `call`, which may be null, receives its number. Errors, after which nothing has begun:
  * KRLC_MISUSE, KRLC_BAD_RANGE also for an empty range, KRLC_BAD_KEY, KRLC_TOO_LONG, KRLC_OUT_OF_MEMORY. The codes of
  * answers are those of the calls of krl_client.h with the same names, whose timeout is the deadline. */
 
@@ -167,12 +168,12 @@ KRLC_NODISCARD uint32_t krlh_pin(krlh_client *client, uint64_t now, uint64_t lo,
 /* Whether no other client has taken anything of the range since it was pinned. */
 bool krlh_pin_holds(krlh_client *client, uint64_t now, uint64_t pin);
 
-/* Ends a pin: other clients get the range that they wait for. One that has ended already is left as it is, since no two
- * pins of a client have one number. */
+/* Ends a pin: other clients get the range that they wait for. A pin that has ended already is left as it is, since no
+ * two pins of a client have the same number. */
 void krlh_unpin(krlh_client *client, uint64_t now, uint64_t pin);
 
-/* Nobody waits for a call any more: it is answered as if its deadline were over, by this call. A write may still be
- * applied. A call that was answered stays so. */
+/* Gives up a call: this call answers it as if its deadline were over. A write may still be applied. A call that was
+ * answered already is left as it is. */
 void krlh_cancel(krlh_client *client, uint64_t now, uint64_t call);
 
 /* Reads the cache only, as `krlc_cached_into`: KRLC_OK, KRLC_MISS or KRLC_TOO_SHORT. `clock` gives the moment; it is

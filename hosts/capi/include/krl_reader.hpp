@@ -21,10 +21,10 @@ inline namespace returning {
 inline namespace throwing {
 #endif
 
-/* A reader is no client: it has no number and no lock file, and keeps nothing. Threads that read by it take turns. */
+/* A reader is not a client: it has no number and no lock file, and keeps nothing. Threads that use it take turns. */
 class reader {
   public:
-    /* Of the options, those that only clients have are not set. */
+    /* The options that only clients have are not set. */
     static answer<reader> connect(const options &wanted) {
         krlc_options options = detail::options_of(wanted);
         krlc_reader *connected = nullptr;

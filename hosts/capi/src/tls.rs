@@ -1,4 +1,4 @@
-//! What a client shows to servers by TLS, and whom it believes.
+//! What a client shows to servers by TLS, and whom it trusts.
 use crate::code::Code;
 use crate::fault::Fault;
 use crate::options::TlsTexts;

@@ -4,11 +4,11 @@ use clap::ValueEnum;
 /// What an import does with a row of the file whose key has a row in the table.
 #[derive(Clone, Copy, Debug, PartialEq, Eq, ValueEnum)]
 pub enum Existing {
-    /// The import ends there, as refused
+    /// The import ends there, and is refused
     Refuse,
     /// The table's row stays as it is
     Keep,
-    /// The table's row gets the value of the file
+    /// The table's row gets the value in the file
     Replace,
 }
 

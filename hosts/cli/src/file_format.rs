@@ -11,7 +11,7 @@ pub enum FileFormat {
 }
 
 impl FileFormat {
-    /// The format that the ending of a file's name stands for: JSON lines for `.jsonl`, `.ndjson`
+    /// The format that the ending of a file's name stands for: JSON Lines for `.jsonl`, `.ndjson`
     /// and `.json`, otherwise CSV.
     #[must_use]
     pub fn of_name(path: &Path) -> FileFormat {

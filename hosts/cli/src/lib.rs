@@ -1,5 +1,5 @@
 //! What the programs of this workspace share: rows of a krl table as text, that is, values as words and
-//! files of rows as CSV or as JSON lines; and what a program prints.
+//! files of rows as CSV or as JSON Lines; and what a program prints.
 //!
 //! Rows that are written read back as the same rows.
 mod closed_quotes;

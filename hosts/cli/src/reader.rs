@@ -150,7 +150,7 @@ fn key_of_number(key: u64) -> Option<u64> {
 }
 
 fn bad_key(key: &dyn fmt::Display) -> String {
-    format!("'{key}' is no key: a number from 0 to 2^63 - 2 is expected")
+    format!("'{key}' is not a key: a number from 0 to 2^63 - 2 is expected")
 }
 
 /// The row of the next line that is not empty.
@@ -174,7 +174,7 @@ fn read_line<R: Read>(
 
 fn row_of_line(line: &[u8], values: ValueForm) -> Result<Row, String> {
     let Line { key, value, hex } = serde_json::from_slice(line).map_err(|error| {
-        format!("it is no row: {error}; expected is {{\"key\":15,\"value\":\"one\"}}")
+        format!("it is not a row: {error}; expected is {{\"key\":15,\"value\":\"one\"}}")
     })?;
     let key = key_of_number(key).ok_or_else(|| bad_key(&key))?;
     let value = value_of(value.as_deref(), hex.as_deref(), values)?;
@@ -285,10 +285,10 @@ mod tests {
         for (row, message) in [
             ("2\n3,a", "line 3: it has 1 columns, and two are expected: key,value"),
             ("2,a,b\n3,a", "line 3: it has 3 columns"),
-            ("-2,a\n3,a", "line 3: '-2' is no key: a number from 0 to 2^63 - 2 is expected"),
-            ("9223372036854775807,a", "line 3: '9223372036854775807' is no key"),
-            ("key,a\n", "line 3: 'key' is no key"),
-            ("2,hex:1", "line 3: 'hex:1' is no value"),
+            ("-2,a\n3,a", "line 3: '-2' is not a key: a number from 0 to 2^63 - 2 is expected"),
+            ("9223372036854775807,a", "line 3: '9223372036854775807' is not a key"),
+            ("key,a\n", "line 3: 'key' is not a key"),
+            ("2,hex:1", "line 3: 'hex:1' is not a value"),
             ("2,aaaaaaaaaaaaaaaaaaaaaaaaaaaaaaaaa", "line 3: a value has at most 32 bytes"),
         ] {
             let (rows, why) = read(format!("{one}{row}").as_bytes(), FileFormat::Csv);
@@ -299,12 +299,12 @@ mod tests {
         assert!(why.is_some_and(|why| why.starts_with("line 2: invalid utf-8")));
         for (row, message) in [
             ("{\"key\":2}", "line 2: it has no value: \"value\" or \"hex\" is expected"),
-            ("{\"key\":-2,\"value\":\"a\"}", "line 2: it is no row: invalid value"),
+            ("{\"key\":-2,\"value\":\"a\"}", "line 2: it is not a row: invalid value"),
             ("{\"key\":9223372036854775807,\"hex\":\"\"}", "line 2: '9223372036854775807' is no"),
-            ("{\"key\":2,\"value\":\"a\",\"more\":1}", "line 2: it is no row: unknown field"),
-            ("{\"key\":2,\"hex\":\"1\"}", "line 2: '1' is no value"),
+            ("{\"key\":2,\"value\":\"a\",\"more\":1}", "line 2: it is not a row: unknown field"),
+            ("{\"key\":2,\"hex\":\"1\"}", "line 2: '1' is not a value"),
             ("{\"key\":2,\"value\":\"a\",\"hex\":\"62\"}", "line 2: its \"value\" 'a' and its"),
-            ("2,a", "line 2: it is no row"),
+            ("2,a", "line 2: it is not a row"),
         ] {
             let text = format!("{{\"key\":1,\"value\":\"one\"}}\n{row}\n");
             let (rows, why) = read(text.as_bytes(), FileFormat::JsonLines);

@@ -114,7 +114,7 @@ fn bytes_of_number(digits: &str, word: &str) -> Result<Vec<u8>, BadValue> {
     let is_number = !digits.is_empty() && digits.bytes().all(|digit| digit.is_ascii_digit());
     let number = digits.parse::<u64>().ok().filter(|_| is_number);
     let number = number.ok_or_else(|| {
-        BadValue(format!("'{word}' is no value: a number from 0 to 2^64 - 1 is expected"))
+        BadValue(format!("'{word}' is not a value: a number from 0 to 2^64 - 1 is expected"))
     })?;
     Ok(number.to_be_bytes().into())
 }
@@ -124,7 +124,7 @@ fn bytes_of_digits(digits: &str, word: &str) -> Result<Vec<u8>, BadValue> {
     let bytes: Option<Vec<u8>> = pairs.map(byte_of_pair).collect();
     bytes.ok_or_else(|| {
         let expected = "an even number of hexadecimal digits is expected";
-        BadValue(format!("'{word}' is no value: {expected}"))
+        BadValue(format!("'{word}' is not a value: {expected}"))
     })
 }
 
@@ -188,11 +188,11 @@ mod tests {
     fn bad_words_are_reported() {
         let fails = |form: ValueForm, word: &str| form.read(word).unwrap_err().to_string();
         assert!(fails(ValueForm::Text, "hex:abc").contains("even number of hexadecimal digits"));
-        assert!(fails(ValueForm::Text, "hex:+1").contains("'hex:+1' is no value"));
+        assert!(fails(ValueForm::Text, "hex:+1").contains("'hex:+1' is not a value"));
         assert!(fails(ValueForm::Text, "u64:").contains("a number from 0 to 2^64 - 1"));
-        assert!(fails(ValueForm::Number, "+5").contains("'+5' is no value"));
+        assert!(fails(ValueForm::Number, "+5").contains("'+5' is not a value"));
         assert!(fails(ValueForm::Number, "18446744073709551616").contains("2^64 - 1"));
-        assert!(fails(ValueForm::Hex, "one").contains("'one' is no value"));
+        assert!(fails(ValueForm::Hex, "one").contains("'one' is not a value"));
         let long = fails(ValueForm::Text, &"a".repeat(33));
         assert!(long.contains("at most 32 bytes") && long.ends_with("has 33"), "{long}");
     }

@@ -14,26 +14,26 @@ use std::path::PathBuf;
 use std::time::Duration;
 
 const HELP: &str = "\
-Keys are 0 to 2^63 - 2. A range is LO HI or LO..HI, and has LO and not HI; END
+Keys are 0 to 2^63 - 2. A range is LO HI or LO..HI: from LO on, below HI. END
 stands for 2^63 - 1.
 
 Values have at most 32 bytes. A value is text, or
   hex:cafe    the bytes ca fe
   u64:5       the eight bytes of the number 5, the highest first
   text:u64:5  the text after text:
---hex and --number-values read and show values without a prefix as hexadecimal
-digits, or as numbers (and x with digits for what is no number, as the scripts
-of krl do).
+With --hex, values without a prefix are read and shown as hexadecimal digits.
+With --number-values they are numbers, or x and hexadecimal digits, as in the
+scripts of krl.
 
-A row is printed as KEY=VALUE, one a line. What is printed reads back: insert,
-put and set take KEY=VALUE in place of KEY VALUE. A value that is no text is
-printed as u64: and a number if it has eight bytes, otherwise as hex: and
-digits.
+A row is printed as KEY=VALUE, one per line. What is printed can be read back:
+insert, put and set take KEY=VALUE in place of KEY VALUE. A value that is not
+text is printed as u64: and a number if it has eight bytes, otherwise as hex:
+and digits.
 
 The client's number: one process at a time is the client of a number, from 0
 to 63. Without --number the first free one from 63 down to 56 is taken, so
 eight commands run at once; but a get and a scan of up to 128 rows take none,
-so any number of them do. Lock files in $XDG_STATE_HOME/krl, or
+so any number of them run at once. Lock files in $XDG_STATE_HOME/krl, or
 ~/.local/state/krl, show which are free for this user on this machine. If the
 server reports that another user or machine has a number, the next one is tried
 after a second: give --number, or KRL_NUMBER, to each, such as 40-47.
@@ -41,27 +41,27 @@ after a second: give --number, or KRL_NUMBER, to each, such as 40-47.
 
 The command of hold finds the incarnation of the client in KRL_INCARNATION.
 
-A table of several servers is named by --map FILE, or KRL_MAP, in place of
+For a table of several servers give --map FILE, or KRL_MAP, in place of
 --server. The file has a line version = N, and for each shard a table [[shard]]
 with first, its first key, and servers, its addresses.
 
-Without a command it is a prompt; lines from a pipe or a file are run until the
-first one fails.
+Without a command krl-client shows a prompt; lines from a pipe or a file are
+run until the first one fails.
 
 Exit status:
   0    it is done
-  1    it was refused: there is such a row, there is none, or the table is
-       full; or the output can't be written
-  2    a word, a file or the map can't be understood
+  1    it was refused: the row exists, does not exist, or the table is full; or
+       the output can't be written
+  2    an argument, a file or the map is wrong
   3    there was no answer in time: the server is away or does not serve this
        client, another client holds what the command needs, or the client lost
        its lease or the server's store went back. A write may have been applied,
        unless standard error reports that it was not made
-  4    the client could not join, or has no right to what it asks
+  4    the client could not join, or may not do what it asked for
   125  hold: the range was lost before the command had ended
   126  hold: the command can't be run
   127  hold: there is no such command; otherwise hold ends with its status
-  130  Ctrl-C ended it (watch and bench: 0); 128 and its number: another signal
+  130  Ctrl-C ended it (watch and bench: 0); another signal: 128 and its number
   141  nobody reads the output any more
 
 Examples:
@@ -117,10 +117,10 @@ pub struct Options {
         default_value = "127.0.0.1:7400"
     )]
     pub server: Servers,
-    /// A file that states which servers have which keys, in place of one server
+    /// The file of a map, which lists the servers and the keys of each, in place of one server
     #[arg(long, global = true, env = "KRL_MAP", value_name = "FILE")]
     pub map: Option<PathBuf>,
-    /// By TLS: the certificate of the authority that certified the server, as PEM
+    /// Over TLS: the certificate of the authority that certified the server, as PEM
     #[arg(
         long,
         global = true,
@@ -129,7 +129,7 @@ pub struct Options {
         requires = "tls_certificate"
     )]
     pub tls_authority: Option<PathBuf>,
-    /// By TLS: this client's certificate, whose names are krl:client:N for its numbers, as PEM
+    /// Over TLS: this client's certificate, whose names are krl:client:N for its numbers, as PEM
     #[arg(
         long,
         global = true,
@@ -138,7 +138,7 @@ pub struct Options {
         requires = "tls_key"
     )]
     pub tls_certificate: Option<PathBuf>,
-    /// By TLS: the key of that certificate, as PEM
+    /// Over TLS: the key of that certificate, as PEM
     #[arg(
         long,
         global = true,
@@ -147,7 +147,7 @@ pub struct Options {
         requires = "tls_authority"
     )]
     pub tls_key: Option<PathBuf>,
-    /// By TLS: the name of the table, if certificates have one
+    /// Over TLS: the name of the table, if certificates have one
     #[arg(long, global = true, env = "KRL_TABLE", value_name = "NAME")]
     pub table: Option<TableName>,
     /// The client's number, 0 to 63; or a range, such as 40-47, or auto for all numbers: the
@@ -168,7 +168,7 @@ pub struct Options {
         value_parser = humantime::parse_duration
     )]
     pub timeout: Duration,
-    /// Answers are lines of text, or one JSON value a line
+    /// How answers are printed: as lines of text, or as one JSON value per line
     #[arg(long, global = true, env = "KRL_FORMAT", value_enum, default_value_t = Format::Text)]
     format: Format,
     /// The same as --format json
@@ -253,9 +253,9 @@ pub enum Command {
     Client(ClientCommand),
     /// Measure a server with clients of its own, on keys that have no row
     Bench(BenchWords),
-    /// Write the rows of a file of CSV or JSON lines to the table
+    /// Write the rows of a CSV or JSON Lines file to the table
     Import(ImportWords),
-    /// Print a script for a shell that completes the words of krl-client
+    /// Print a script by which a shell completes commands and options of krl-client
     Completion {
         /// The shell
         shell: Shell,
@@ -296,12 +296,12 @@ pub enum ClientCommand {
         #[command(flatten)]
         keys: KeyOrRangeWords,
     },
-    /// Print the rows of a range as CSV, or with --json as JSON lines
+    /// Print the rows of a range as CSV, or with --json as JSON Lines
     Export {
         #[command(flatten)]
         range: OptionalRangeWords,
     },
-    /// Report how long each server takes to answer: it reads the greatest key there
+    /// Report how long each server takes to answer a read of its greatest key
     Ping,
     /// Print a range, and again whenever it changes, until Ctrl-C
     Watch {
@@ -315,7 +315,7 @@ pub enum ClientCommand {
     Hold {
         #[command(flatten)]
         range: RangeWords,
-        /// Nor does anybody else hold it with --update; others still read it
+        /// Nobody else holds it with --update meanwhile either; others can still read it
         #[arg(long)]
         update: bool,
         /// The command and its arguments
@@ -419,10 +419,10 @@ impl KeyOrRange {
 /// What an import takes.
 #[derive(Clone, Debug, Args)]
 pub struct ImportWords {
-    /// The file, or - for standard input: JSON lines if its name ends in .jsonl, .ndjson or .json or
+    /// The file, or - for standard input: JSON Lines if its name ends in .jsonl, .ndjson or .json or
     /// --json is given, otherwise CSV
     pub file: PathBuf,
-    /// What is done with a row whose key has a row in the table
+    /// What to do with a row whose key has a row in the table already
     #[arg(long, value_enum, default_value = "refuse")]
     pub existing: Existing,
     /// How many clients write the rows at the same time

@@ -100,7 +100,7 @@ fn refuse_rows(client: &Client, keys: &Range<u64>) -> Result<(), Failure> {
     }
     Err(Failure::Refused(format!(
         "there are rows of keys from {} to {}, and a benchmark takes keys that have none: give \
-         others by --first-key",
+         others with --first-key",
         keys.start,
         keys.end - 1
     )))
@@ -121,7 +121,8 @@ fn make_rows(
         }
         let outcome = client.insert(key, random_value(&mut random, value_size))?;
         if outcome != Outcome::Applied {
-            return Err(Failure::Refused(format!("the row of key {key} can't be made: {outcome}")));
+            let why = format!("the row of key {key} can't be inserted: {outcome}");
+            return Err(Failure::Refused(why));
         }
         made.end = key + 1;
     }

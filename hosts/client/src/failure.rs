@@ -143,7 +143,7 @@ impl Failure {
         let is_unknown = refused.is_unknown_outcome();
         match Failure::from(refused) {
             Failure::NoAnswer(why) if is_unknown => Failure::NoAnswer(format!(
-                "{why}; the write may have been applied: read the key {key} by --number {number}"
+                "{why}; the write may have been applied: read the key {key} with --number {number}"
             )),
             failure => failure,
         }
@@ -179,7 +179,7 @@ impl Failure {
             JoinErrorKind::Unserved(
                 why @ (Refusal::LeaseRuns { .. } | Refusal::Incarnation { .. }),
             ) => Failure::NoAnswer(format!(
-                "number {number} is in use: give another one by --number, or wait if its process \
+                "number {number} is in use: give another one with --number, or wait if its process \
                  is gone. The server reports: {why}"
             )),
             JoinErrorKind::LockFile { error: LockFileError::Taken, .. } => {
@@ -286,7 +286,7 @@ mod tests {
             assert_eq!(Failure::of_call(refused).status(), status, "{refused:?}");
             let written = Failure::of_write(refused.into(), 15, 3);
             assert_eq!(written.status(), status, "{refused:?}");
-            let told = "may have been applied: read the key 15 by --number 3";
+            let told = "may have been applied: read the key 15 with --number 3";
             let is_told = written.to_string().ends_with(told);
             assert_eq!(is_told, Error::from(refused).is_unknown_outcome(), "{written}");
         }

@@ -36,7 +36,7 @@ pub fn hold(
         Failure::NotStarted(why, error.kind())
     })?;
     let status = wait(&mut command, number, signals).map_err(|error| {
-        let why = format!("the end of {} is not known: {error}", name.to_string_lossy());
+        let why = format!("waiting for {} failed: {error}", name.to_string_lossy());
         Failure::NotStarted(why, error.kind())
     })?;
     if pin.holds() { Ok(status_of(status)) } else { Err(Failure::NotHeld(status)) }

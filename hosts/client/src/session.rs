@@ -124,7 +124,7 @@ fn none_is_free(options: &Options) -> Failure {
     let numbers = options.numbers().0;
     Failure::NotJoined(format!(
         "too few of the client numbers {} to {} are free: other processes of this user have them; \
-         give others by --number",
+         give others with --number",
         numbers.start(),
         numbers.end()
     ))
@@ -141,12 +141,13 @@ impl LockFiles {
     fn of(options: &Options) -> Result<LockFiles, Failure> {
         match (&options.lock_file, options.numbers().only()) {
             (Some(_), _) if options.map.is_some() => {
-                let why = "a lock file is of one server: --lock-file does not go with --map";
+                let why = "a lock file is for one server: --lock-file can't be used with --map";
                 Err(Failure::Usage(why.into()))
             }
             (Some(file), Some(number)) => Ok(LockFiles::One(number, file.clone())),
             (Some(_), None) => {
-                let why = "a lock file is of one number: --lock-file needs --number and one number";
+                let why = "a lock file is for one number: --lock-file needs a --number that is one \
+                           number";
                 Err(Failure::Usage(why.into()))
             }
             (None, _) => folder().map(LockFiles::In),
@@ -176,6 +177,6 @@ impl LockFiles {
 pub fn folder() -> Result<PathBuf, Failure> {
     lock_folder().map_err(|why| {
         let why = JoinErrorKind::NoLockFolder(why);
-        Failure::NotJoined(format!("{why}; or give the lock file by --number and --lock-file"))
+        Failure::NotJoined(format!("{why}; or give the lock file with --number and --lock-file"))
     })
 }

@@ -15,7 +15,7 @@ pub const ALL: Range<u64> = 0..TOP;
 /// A key: 0 to 2^63 - 2.
 pub fn key(word: &str) -> Result<u64, Failure> {
     point(word).filter(|key| *key < END).ok_or_else(|| {
-        Failure::Usage(format!("'{word}' is no key: a number from 0 to 2^63 - 2 is expected"))
+        Failure::Usage(format!("'{word}' is not a key: a number from 0 to 2^63 - 2 is expected"))
     })
 }
 
@@ -30,7 +30,7 @@ pub fn range(first: &str, second: Option<&str>) -> Result<Range<u64>, Failure> {
     bounds.filter(|(lo, hi)| lo < hi && *hi <= TOP).map(|(lo, hi)| lo..hi).ok_or_else(|| {
         let word = second.map_or(first.into(), |hi| format!("{first} {hi}"));
         let expected = "LO HI or LO..HI is expected, LO below HI and HI at most 2^63";
-        Failure::Usage(format!("'{word}' is no range: {expected}"))
+        Failure::Usage(format!("'{word}' is not a range: {expected}"))
     })
 }
 
@@ -92,7 +92,7 @@ mod tests {
             ["", "-1", "+1", "1.5", "ten", "END", "9223372036854775807", "99999999999999999999"]
         {
             let message = key(word).unwrap_err().to_string();
-            assert!(message.contains(&format!("'{word}' is no key")), "{message}");
+            assert!(message.contains(&format!("'{word}' is not a key")), "{message}");
         }
     }
 
@@ -114,7 +114,7 @@ mod tests {
             ("1..2", Some("3")),
         ] {
             let message = range(first, second).unwrap_err().to_string();
-            assert!(message.contains("is no range"), "{message}");
+            assert!(message.contains("is not a range"), "{message}");
         }
     }
 

@@ -58,7 +58,7 @@ fn a_benchmark_prints_a_table() {
 }
 
 #[test]
-fn rows_that_are_there_are_left_alone() {
+fn rows_that_are_there_stay_as_they_are() {
     let world = World::new("there");
     assert_eq!(world.client(1).insert(20, Value::from(1)), Ok(Outcome::Applied));
     let ended = world.run(&WORDS);
@@ -137,7 +137,7 @@ fn what_a_benchmark_cannot_do_is_a_usage() {
         (&["--threads", "0"], "0 is not in 1..=256"),
         (&["--seconds", "0"], "0 is not in 1..=86400"),
         (&["--warm-up", "3601"], "3601 is not in 0..=3600"),
-        (&["--mix", "95,6"], "two numbers with the sum 100 are expected, such as 95,5"),
+        (&["--mix", "95,6"], "two numbers whose sum is 100 are expected, such as 95,5"),
         (&["--skew", "normal"], "uniform, zipf, or zipf:EXPONENT of 0 to 10 is expected"),
         (&["--skew", "zipf:11"], "uniform, zipf, or zipf:EXPONENT of 0 to 10 is expected"),
         (&["--keys", "65537"], "65537 is not in 1..=65536"),

@@ -131,10 +131,10 @@ fn ping_prints_the_server_and_the_epoch() {
 fn words_that_cannot_be_understood_are_status_2() {
     let world = World::new("words");
     for (words, message) in [
-        (&["get", "ten"][..], "'ten' is no key: a number from 0 to 2^63 - 2 is expected"),
-        (&["get", "9223372036854775807"], "is no key"),
-        (&["scan", "20", "10"], "'20 10' is no range: LO HI or LO..HI is expected"),
-        (&["scan", "10"], "'10' is no range"),
+        (&["get", "ten"][..], "'ten' is not a key: a number from 0 to 2^63 - 2 is expected"),
+        (&["get", "9223372036854775807"], "is not a key"),
+        (&["scan", "20", "10"], "'20 10' is not a range: LO HI or LO..HI is expected"),
+        (&["scan", "10"], "'10' is not a range"),
         (&["insert", "15"], "'15' has no value: KEY VALUE is expected"),
         (&["insert", "15", "hex:abc"], "an even number of hexadecimal digits is expected"),
         (&["put", "15", &"a".repeat(33)], "a value has at most 32 bytes"),
@@ -147,13 +147,13 @@ fn words_that_cannot_be_understood_are_status_2() {
             "a number from 0 to 63, a range such as 56-63, or auto is expected",
         ),
         (&["--timeout", "soon", "get", "1"], "--timeout"),
-        (&["--lock-file", "file", "get", "1"], "--lock-file needs --number and one number"),
-        (&["bench", "--mix", "90,5"], "two numbers with the sum 100 are expected"),
+        (&["--lock-file", "file", "get", "1"], "--lock-file needs a --number that is one number"),
+        (&["bench", "--mix", "90,5"], "two numbers whose sum is 100 are expected"),
         (&["bench", "--keys", "5", "--rows", "6"], "a read of 6 rows needs as many keys"),
         (&["bench", "--first-key", "9223372036854775800"], "give a lower --first-key"),
         (&["hold", "1", "2"], "COMMAND"),
-        (&["hold", "2", "1", "--", "true"], "is no range"),
-        (&["watch", "1", "1"], "is no range"),
+        (&["hold", "2", "1", "--", "true"], "is not a range"),
+        (&["watch", "1", "1"], "is not a range"),
     ] {
         let ended = world.run(words);
         assert_eq!((ended.status, ended.out.as_str()), (2, ""), "{words:?}: {ended:?}");
@@ -238,7 +238,7 @@ fn a_client_that_cannot_join_is_status_4() {
     std::fs::write(&file, "mine").unwrap();
     let ended = world.run(&words);
     assert_eq!(ended.status, 4, "{ended:?}");
-    assert!(ended.errors.contains("no lock file of this client number"), "{ended:?}");
+    assert!(ended.errors.contains("not the lock file of this client number"), "{ended:?}");
     let blocked = world.command(&["delete", "1"]).env("XDG_STATE_HOME", &file).output().unwrap();
     let blocked = Ended::from(blocked);
     assert_eq!(blocked.status, 4, "{blocked:?}");

@@ -69,7 +69,7 @@ fn readers_read_and_writers_wait_while_a_command_runs() {
 }
 
 #[test]
-fn a_held_range_takes_no_new_rows_and_its_neighbours_do() {
+fn a_held_range_takes_no_new_rows_and_its_neighbors_do() {
     let world = World::new("gaps");
     let writer = world.client(2);
     for key in [5, 25] {

@@ -154,7 +154,7 @@ fn failures_name_the_shard_and_what_is_expected() {
     assert!(ended.errors.contains("bad.toml can't be used: a map has 1 to 64 shards"), "{ended:?}");
     let ended = shards.run(&["--lock-file", "a", "--number", "3", "get", "5"]);
     assert_eq!(ended.status, 2);
-    assert!(ended.errors.contains("--lock-file does not go with --map"), "{ended:?}");
+    assert!(ended.errors.contains("--lock-file can't be used with --map"), "{ended:?}");
     shards.upper.stop().unwrap();
     let timed = |key| ["--map", &shards.map, "--timeout", "3s", "get", key];
     let ended = shards.world.run(&timed("105"));

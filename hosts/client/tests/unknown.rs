@@ -35,7 +35,7 @@ fn a_write_whose_lease_ends_may_have_been_applied() {
     assert_eq!(status, 3, "{errors}");
     assert!(errors.contains("the client's lease has ended"), "{errors}");
     assert!(
-        errors.contains("the write may have been applied: read the key 4 by --number "),
+        errors.contains("the write may have been applied: read the key 4 with --number "),
         "{errors}"
     );
     assert_eq!(world.prints(&["get", "4"]), "4=b\n", "it was applied");
@@ -48,7 +48,7 @@ fn a_write_that_is_not_answered_in_time_may_have_been_applied() {
     let Ended { status, errors, .. } = loses_the_answer(&world, &words);
     assert_eq!(status, 3, "{errors}");
     assert!(
-        errors.contains("the write may have been applied: read the key 4 by --number "),
+        errors.contains("the write may have been applied: read the key 4 with --number "),
         "{errors}"
     );
 }

@@ -134,7 +134,7 @@ fn rows_that_are_there_are_refused_kept_or_replaced() {
 fn a_bad_file_is_reported_and_nothing_is_written() {
     let world = World::new("bad-file");
     for (text, message) in [
-        ("1,a\nx,b\n", "line 2: 'x' is no key"),
+        ("1,a\nx,b\n", "line 2: 'x' is not a key"),
         ("1,a\n2\n", "line 2: it has 1 columns, and two are expected: key,value"),
         ("1,a\n2,b\n1,c\n", "line 3: the key 1 has a row in line 1 already"),
         ("1,a\n2,aaaaaaaaaaaaaaaaaaaaaaaaaaaaaaaaa\n", "line 2: a value has at most 32 bytes"),

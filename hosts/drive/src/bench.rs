@@ -114,7 +114,7 @@ fn scans(at: &Address, folder: &Path) -> Done {
     Ok(())
 }
 
-/// The keys of a hundred rows, not those of its neighbours.
+/// The keys of a hundred rows, not those of its neighbors.
 fn range(place: u64) -> Range<u64> {
     let lo = STEP + STEP * SCAN * (place % FIRST_SCANS);
     lo..lo + STEP * SCAN

@@ -77,7 +77,7 @@ const SETTINGS: [&str; 14] = [
     "autovacuum_naptime=5s",
 ];
 
-/// Faults are this many milliseconds apart, and at most so many longer.
+/// Faults are this many milliseconds apart, and at most this many longer.
 const PAUSE: u64 = 300;
 const LONGER: u64 = 1500;
 

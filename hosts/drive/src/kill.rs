@@ -36,7 +36,7 @@ const TLS: &str = "tls:";
 /// How many milliseconds a lease has if there are some: a killed client starts again sooner.
 const LEASE: u64 = 2000;
 
-/// A round over TLS is this much longer: each start of the server is followed by a hand-shake of
+/// A round over TLS is this much longer: each start of the server is followed by a handshake of
 /// each client.
 const LONGER_BY_TLS: u32 = 3;
 

@@ -35,7 +35,7 @@ pub fn start(server: SocketAddr, carrier: Carrier) -> io::Result<SocketAddr> {
             // If no server runs, the client's connection ends.
             if let Ok(server) = TcpStream::connect(server) {
                 thread::spawn(move || {
-                    // If a hand-shake fails the client's connection ends too.
+                    // If a handshake fails the client's connection ends too.
                     let _ = join(client, server, carrier, seed);
                 });
             }

@@ -12,9 +12,9 @@
 //! krl_drive moves FOLDER SECONDS KILLS SERVER                    cuts, merges and moves shards
 //! krl_drive grow FOLDER SERVER                                    measures such changes
 //! krl_drive cache FOLDER SECONDS                                  kills readers of a cached table
-//! krl_drive haste FOLDER                                          measures a hasty client's neighbour
+//! krl_drive haste FOLDER                                          measures next to a hasty client
 //! krl_drive reaches FOLDER                                        measures long and short grants
-//! krl_drive strangers                                             connects what is no client
+//! krl_drive strangers                                             connects what is not a client
 //! krl_drive reports                                               reports in the worst orders
 //! krl_drive large-stores FOLDER                                  fills stores of the greatest room
 //! krl_drive strings COUNT CHANGED                                 hands strings to both decoders

@@ -100,7 +100,7 @@ impl Site {
     }
 
     fn time(&self, what: What, turn: u64) -> Done<Duration> {
-        // 37 and the number of ranges have no common factor: no two neighbours come in a row.
+        // 37 and the number of ranges have no common factor: no two neighbors come in a row.
         let lo = turn * 37 % (ROWS / SCAN) * SCAN;
         let (reader, many) = (&self.reader, lo..lo + SCAN);
         match what {

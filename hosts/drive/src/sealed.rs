@@ -12,7 +12,7 @@ use std::time::Duration;
 /// How much is read at once.
 const GULP: usize = 1 << 14;
 
-/// How long the other side may take for each part of a hand-shake.
+/// How long the other side may take for each part of a handshake.
 const HANDSHAKE: Duration = Duration::from_secs(5);
 
 /// The numbers of clients are below this.

@@ -140,7 +140,7 @@ fn one(place: u64) -> Range<u64> {
     lo..lo + STEP
 }
 
-/// The keys of a hundred rows, not those of its neighbours.
+/// The keys of a hundred rows, not those of its neighbors.
 fn hundred(place: u64) -> Range<u64> {
     let lo = STEP + STEP * SCAN * place;
     lo..lo + STEP * SCAN

@@ -229,7 +229,7 @@ fn read(path: &std::path::Path) -> Result<Vec<u8>, String> {
 
 /// A key with its value, as the gateway writes them.
 pub(crate) fn pair_of(json: &Json) -> Result<(String, Vec<u8>), Failure> {
-    let strange = || Failure::Refused("etcd's answer is no key with a value".to_string());
+    let strange = || Failure::Refused("etcd's answer is not a key with a value".to_string());
     let key = text_of(&json["key"]).ok_or_else(strange)?;
     Ok((key, bytes_of(&json["value"]).ok_or_else(strange)?))
 }

@@ -4,7 +4,7 @@ use crate::address::{Credentials, EtcdAddress};
 /// What an error of TLS contains after which another attempt at the same node fails too.
 const UNTRUSTED: &str = "certificate verify failed";
 const HANDSHAKE: &str = "native_tls connect failed";
-/// How a connection ends if the node doesn't know what it was sent: which of them depends on how
+/// How a connection ends if the node does not know what it was sent: which of them depends on how
 /// much the node had read by then.
 const ENDED: [&str; 4] =
     ["unexpected EOF", "Unexpected EOF", "Connection reset by peer", "Broken pipe"];

@@ -126,7 +126,7 @@ UPDATE part SET n = 1 WHERE id = 1;
 INSERT INTO part VALUES (1, 1);
 SELECT * FROM since();
 
--- A key that is no integer any more is refused until the table is cached again.
+-- A key that is no longer an integer is refused until the table is cached again.
 ALTER TABLE item ALTER COLUMN id TYPE text;
 INSERT INTO item (id, n) VALUES ('a', 1);
 SELECT krl.uncache('item');

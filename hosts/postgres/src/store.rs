@@ -2,7 +2,7 @@
 use crate::address::PostgresAddress;
 use crate::batch::{self, Batch};
 use crate::connector::Connector;
-use crate::head::fence_of;
+use crate::head::{fence_of, no_fence};
 use crate::link::{Link, Stored};
 use krl::fence::{Failure, Fence, Ownership};
 use krl::{
@@ -158,7 +158,7 @@ impl PostgresStore {
             self.next = Fence::with_new_owner(self.head.epoch)?;
             return Ok(());
         };
-        let head = fence_of(&stored.head).ok_or_else(|| strange("head"))?;
+        let head = fence_of(&stored.head).ok_or_else(|| no_fence(&stored.head))?;
         self.snapshot = snapshot(&stored, head.epoch)?;
         self.starts = stored.starts.iter().map(mark).collect::<Result<_, _>>()?;
         self.head = head;
@@ -235,7 +235,7 @@ impl fmt::Debug for PostgresStore {
     }
 }
 
-fn strange(table: &str) -> Failure {
+pub(crate) fn strange(table: &str) -> Failure {
     Failure::Refused(format!("the table krl.{table} has what no server of krl keeps"))
 }
 

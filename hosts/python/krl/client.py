@@ -99,7 +99,7 @@ class _Writer:
         return self.write_all([Delete(key)], timeout)[0]
 
     def write_all(self, writes: Iterable[Write], timeout: Seconds = None) -> list[Outcome]:
-        """Makes several writes in one wait, in this order: see ``krlc_write_all``. It is not
+        """Makes several writes in one call, in this order: see ``krlc_write_all``. It is not
         a transaction. An error has what became of each write in its ``outcomes``."""
         outcomes, packed = list[Outcome](), bytearray()
         for write in writes:

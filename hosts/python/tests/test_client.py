@@ -22,7 +22,7 @@ T = TypeVar("T")
 
 
 class CallsTest(Served):
-    def test_each_call_answers_what_it_says(self) -> None:
+    def test_each_call_returns_what_it_describes(self) -> None:
         client = self.join(0)
         self.assertEqual(client.insert(15, b"one"), Outcome.APPLIED)
         self.assertEqual(client.insert(15, b"two"), Outcome.EXISTS)
@@ -104,7 +104,7 @@ class CallsTest(Served):
         self.assertEqual(too_long.exception.outcomes, [Outcome.NOT_MADE] * 2)
         self.assertEqual(other.read(), [Row(10, b"4")])
 
-    def test_an_error_tells_what_became_of_each_write(self) -> None:
+    def test_an_error_reports_what_became_of_each_write(self) -> None:
         one, other = self.join(0), self.join(1, 3600)
         # The gap after the pinned range ends at the second row.
         one.write_all([krl.Insert(10, b"1"), krl.Insert(15, b"")])
@@ -364,7 +364,7 @@ class ServersTest(Served):
         self.resume()
         self.assertEqual(client.put(10, b"3"), Outcome.APPLIED)
 
-    def test_a_server_that_waits_for_another_client_says_so_until_that_is_evicted(self) -> None:
+    def test_a_server_that_waits_for_another_client_reports_it_until_that_is_evicted(self) -> None:
         self.end_without_leaving(7)
         client = self.join(0)
         client.insert(5, b"1")
@@ -468,7 +468,7 @@ class LeasesTest(Served):
 
 
 class BadInputTest(Served):
-    def test_bad_keys_ranges_and_values_are_told(self) -> None:
+    def test_bad_keys_ranges_and_values_are_reported(self) -> None:
         client = self.join(0)
         ranges = ((5, 4), (-1, 4), (0, TOP + 1), (1 << 64, 1 << 64), ("a", "b"), (1.0, 2))
         for start, stop in ranges:
@@ -495,7 +495,7 @@ class BadInputTest(Served):
                 client.insert(5, value)  # type: ignore[arg-type]
         self.assertEqual(client.read(), [])
 
-    def test_who_cannot_join_hears_why(self) -> None:
+    def test_a_client_that_cannot_join_learns_why(self) -> None:
         for number in (-1, 64, 1 << 32):
             with self.assertRaisesRegex(ValueError, "a client's number is 0 to 63, not"):
                 krl.join(self.address, number, "none.lock")

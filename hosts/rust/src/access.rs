@@ -16,8 +16,8 @@ const ROOT: u32 = 0;
 ///
 /// Over **TLS** the certificate of a peer names who it is. Over a **Unix socket** its user does:
 /// the server's own user and the superuser may send everything, and others what the list of users
-/// allows. By **plain TCP** nobody can be identified: whoever can connect may send everything. So a
-/// server does not listen there at an address beyond the loopback, unless that is allowed.
+/// allows. Over **plain TCP** nobody can be identified: whoever can connect may send everything. So
+/// a server does not listen there at an address beyond the loopback, unless that is allowed.
 ///
 /// # Examples
 ///
@@ -55,7 +55,7 @@ impl Access {
         Access::default()
     }
 
-    /// What is shown at an address of TLS, and whose certificates are believed there.
+    /// What is shown at a TLS address, and whose certificates are accepted there.
     #[cfg(feature = "tls")]
     pub fn tls(self, config: TlsConfig) -> Access {
         Access { tls: Some(config), ..self }
@@ -69,8 +69,8 @@ impl Access {
         self
     }
 
-    /// Lets a server listen by plain TCP beyond the loopback: **whoever can connect there can speak
-    /// for any client**.
+    /// Lets a server listen over plain TCP beyond the loopback: **whoever can connect there can
+    /// speak for any client**.
     pub fn allow_plain_beyond_loopback(self) -> Access {
         Access { is_plain_allowed: true, ..self }
     }
@@ -85,8 +85,9 @@ impl Access {
         let refused = |why: String| Err(io::Error::new(ErrorKind::InvalidInput, why));
         if address.is_plain_beyond_loopback() && !self.is_plain_allowed {
             return refused(format!(
-                "{address} is beyond the loopback, and by plain TCP whoever can connect can speak \
-                 for any client: listen at a tls: address, or allow plain TCP beyond the loopback"
+                "{address} is beyond the loopback, and over plain TCP whoever can connect can \
+                 speak for any client: listen at a tls: address, or allow plain TCP beyond the \
+                 loopback"
             ));
         }
         if address.is_tls() && self.tls.is_none() {

@@ -86,8 +86,8 @@ use std::time::Duration;
 ///
 /// If the server's store went back, since an older copy of it was brought back, the client drops
 /// its cache as if it had crashed, and joins again: calls that wait just then end with
-/// [`ErrorKind::StoreWentBack`]. Until it has joined, `cached` answers `None`, and other calls wait. A
-/// store without a history reports nothing about it.
+/// [`ErrorKind::StoreWentBack`]. Until it has joined, `cached` returns `None`, and other calls
+/// wait. A store without a history reports nothing about it.
 ///
 /// If the server serves another store than the one that the client has seen, the client drops its
 /// cache too, and calls that wait just then end with `Unserved` by [`Refusal::OtherStore`]. It
@@ -127,9 +127,9 @@ use std::time::Duration;
 ///
 /// A client that follows its map (`Client::follow`, with the feature `map-file`) continues by each
 /// next one. A shard that is the same in both keeps its connection, its cache, its pins and its
-/// calls. At a shard that changes all that is asked waits until the client has left the shard by the
-/// one map and has joined what is in its place by the next: so no call is made by two maps, and a
-/// scan is of one. A pin no longer holds at a shard that has changed.
+/// calls. Calls at a shard that changes wait until the client has left the shard by the one map,
+/// and has joined what is in its place by the next: so no call is made by two maps, and a scan is
+/// of one. A pin no longer holds at a shard that has changed.
 ///
 /// [`Refusal::OtherStore`]: crate::Refusal::OtherStore
 #[derive(Clone)]
@@ -149,8 +149,8 @@ impl Client {
         Calls::new(&self.table, self.timeout())
     }
 
-    /// The map of the shards, if the client is of several servers: the one of now, of a client that
-    /// follows it.
+    /// The map of the shards, if the client is of several servers: the current one, if it follows
+    /// the map.
     #[must_use]
     pub fn map(&self) -> Option<ShardMap> {
         self.table.now().map().cloned()
@@ -276,7 +276,7 @@ impl Client {
         with_room(|room| Ok(self.cached_into(keys, room)?.then(|| room.clone())))
     }
 
-    /// The same, into `rows`, whose room is used again. If the answer is not `Ok(true)`, the rows
+    /// The same, into `rows`, whose memory is used again. Unless it returns `Ok(true)`, the rows
     /// mean nothing.
     ///
     /// # Errors
@@ -358,7 +358,7 @@ impl Client {
         self.calls().block_on_write(Write::Delete(key))
     }
 
-    /// Makes several writes in one wait, one after the other in this order, and returns how each
+    /// Makes several writes in one call, one after the other in this order, and returns how each
     /// was judged. Over several shards, those of each shard are in this order, and writes at two
     /// shards have no order. A write that changes nothing, since its outcome is `Exists`, `Absent`
     /// or `Full`, ends no other one.
@@ -397,8 +397,8 @@ impl Client {
         self.calls().block_on_all(writes.into_iter().collect())
     }
 
-    /// Pins the range: what the client holds of it, or is granted while the pin lives, no callback
-    /// and no forget takes. Other clients that want it wait until the pin is dropped; what they
+    /// Pins the range: no callback and no forget takes what the client holds of it, or is granted
+    /// while the pin lives. Other clients that want it wait until the pin is dropped; what they
     /// called back meanwhile the client then gives back. A client has at most eight pins.
     ///
     /// Pin what you read by this or by [`Client::pin_for_read`], and what you will write by
@@ -445,11 +445,11 @@ impl Client {
     }
 
     /// The same, and no other client pins an overlapping range for an update while the pin lives:
-    /// the client holds the entries of the range, and the slot after them, in the mode U. So of
-    /// two clients that pin for an update and then write, one waits before it has pinned what both
+    /// the client holds the entries of the range, and the slot after them, in the mode U. So of two
+    /// clients that pin for an update and then write, one waits before it has pinned what both
     /// want. That also holds if both have read the range before: what the client only reads, it
     /// gives back before it asks to change it. Until the call returns, [`Client::cached`] may
-    /// therefore answer `None` for a range that it knew.
+    /// therefore return `None` for a range that it knew.
     ///
     /// Two ranges that meet the same gap between two rows count as overlapping. A client that has
     /// pinned a part of the range by [`Client::pin_for_read`] or [`Client::pin`] keeps what it
@@ -470,7 +470,7 @@ impl Client {
     ///
     /// # Examples
     ///
-    /// Any number of clients may count so, and no count is lost:
+    /// Any number of clients may count in this way, and no count is lost:
     ///
     /// ```no_run
     /// use krl::{Client, Error, Outcome, Value};
@@ -547,7 +547,7 @@ impl Client {
     }
 
     /// Gives back what the client holds of the range. While a write is on its way it waits for the
-    /// answer first. Of an empty range there is nothing to give.
+    /// answer first. An empty range changes nothing.
     ///
     /// # Errors
     ///
@@ -589,8 +589,7 @@ impl Client {
     /// Gives back all that the client holds, and waits until each server has kept that it left.
     /// From then on the calls of all clones are refused, and another process may take the number.
     ///
-    /// A client that has left already is left: the answer is `Ok`. After an error it may be called
-    /// again.
+    /// If the client has left already, it returns `Ok`. After an error it may be called again.
     ///
     /// # Errors
     ///

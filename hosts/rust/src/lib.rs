@@ -7,6 +7,7 @@
 //! | do the same in tasks of an executor | [`AsyncClient`] |
 //! | change several rows at one moment, or hold a range | [`Client::write_all`], [`Client::pin`] |
 //! | learn when a range changes | [`Client::changes`] |
+//! | read without a number, and keep nothing | [`Reader`] |
 //! | use several servers, each with a part of the keys | [`ShardMap`] |
 //! | run a server | [`Server::start`], [`ServerBuilder`], [`Listener`] |
 //! | decide who may connect, and for which clients | [`Access`], [`Identity`] |
@@ -41,7 +42,7 @@
 //! | `sqlite`, by default | the store over SQLite: `SqliteStore` and `operate::StoreFile` |
 //! | `tracing`, by default | events for a log |
 //! | `spans` | a span of `tracing` around each call of a client that blocks |
-//! | `tls` | connections by TLS, over OpenSSL: `TlsConfig` |
+//! | `tls` | connections over TLS, with OpenSSL: `TlsConfig` |
 //! | `map-file` | maps of shards as files in TOML |
 //! | `serde` | `Row`, `Value`, `Status` and others as `serde` has them |
 //! | `fence` | what a store needs that several servers may open at once |

@@ -256,7 +256,7 @@ impl<N: Incarnations> Client<N> {
         &self.output
     }
 
-    /// So many bytes of that were sent, or all if they are fewer.
+    /// This many bytes of that were sent, or all if they are fewer.
     pub fn sent(&mut self, count: usize) {
         self.output.drain(..count.min(self.output.len()));
     }
@@ -337,7 +337,7 @@ fn moment(now: Duration) -> Moment {
     Moment::of_nanoseconds(u64::try_from(now.as_nanos()).unwrap_or(u64::MAX))
 }
 
-/// So many servers, whose addresses only the host knows.
+/// This many servers, whose addresses only the host knows.
 fn unnamed(count: usize, shard: Option<ShardBounds>) -> Servers {
     let servers = Servers::unnamed(count);
     match shard {

@@ -100,9 +100,9 @@ impl Server {
         Err(ServeError::Panicked)
     }
 
-    /// Ends the server in order, and returns how it ended: the messages that wait are judged, what
-    /// they change is committed, and the answers are written, as far as the peers take them within
-    /// half a second. What it kept stays; its clients answer from their caches.
+    /// Shuts the server down cleanly, and returns how it ended: the messages that wait are judged,
+    /// what they change is committed, and the answers are written, as far as the peers take them
+    /// within half a second. What it kept stays; its clients answer from their caches.
     ///
     /// # Errors
     ///

@@ -43,7 +43,7 @@ impl FrameKind {
 /// Where the numbers of a message stand that follow its kind, its client and its incarnation.
 const AFTER_HEAD: usize = 18;
 
-/// So many of them are reported.
+/// This many of them are reported.
 const SHOWN: usize = 6;
 
 /// A frame without its length, in words.

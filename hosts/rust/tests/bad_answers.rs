@@ -68,7 +68,7 @@ fn a_client_joins_and_reads_after_one_bad_answer() {
 }
 
 #[test]
-fn bad_answers_alone_reject_nobody() {
+fn bad_answers_by_themselves_reject_nobody() {
     let setup = Setup::new("bad-always");
     let server = serve(&setup);
     let relay = Relay::to(at(&server));

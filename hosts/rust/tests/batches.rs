@@ -1,4 +1,4 @@
-//! Several writes in one wait, at one server and at several.
+//! Several writes in one call, at one server and at several.
 mod two_servers;
 
 use krl::{BatchError, ErrorKind, Fate, Mutation, Unsent};

@@ -217,7 +217,7 @@ fn calls_over_a_unix_socket() {
 }
 
 #[test]
-fn a_file_that_is_no_socket_is_left_alone() {
+fn a_file_that_is_not_a_socket_stays_as_it_is() {
     let folder = Folder::new("file");
     let file = folder.0.join("file");
     std::fs::write(&file, "mine").unwrap();
@@ -406,7 +406,7 @@ fn sleeps(thread: &str) -> u64 {
 }
 
 #[test]
-fn the_thread_of_an_idle_client_wakes_to_tick_alone() {
+fn the_thread_of_an_idle_client_wakes_only_to_tick() {
     let folder = Folder::new("idle");
     let server = server("127.0.0.1:0");
     let client = folder.join(&server, 41);

@@ -213,7 +213,7 @@ fn a_client_with_an_old_map_writes_to_no_side_of_a_split() {
 }
 
 #[test]
-fn a_client_goes_on_when_its_server_is_started_as_its_shard_again() {
+fn a_client_continues_when_its_server_is_started_as_its_shard_again() {
     let folder = Folder::new("again");
     let mut server = server(Some("0..9@3"));
     let address = server.address().to_string();

@@ -226,7 +226,7 @@ fn a_range_is_free_when_the_last_clone_of_its_pin_is_dropped() {
 }
 
 #[test]
-fn whoever_waits_for_a_row_has_pinned_those_below_it_alone() {
+fn a_client_that_waits_for_a_row_has_pinned_only_those_below_it() {
     let world = World::new("prefix");
     let (first, second) = (world.join(1), world.join(2));
     let (below, above) = (world.join_impatient(3), world.join(4));

@@ -90,7 +90,7 @@ fn last_answer_and_write(
 }
 
 #[test]
-fn a_client_that_is_cut_off_stops_before_another_goes_on() {
+fn a_client_that_is_cut_off_stops_before_another_continues() {
     let (folder, server) = (Folder::new("cut"), server(T));
     let network = Network::to(server.address());
     let (cut, other) = (folder.join(&network.address(), 0), folder.join(server.address(), 1));

@@ -68,7 +68,7 @@ fn read(client: &Client) -> Result<Vec<Row>, Error> {
 }
 
 #[test]
-fn a_server_goes_on_and_a_client_of_another_store_waits_for_its_own() {
+fn a_server_continues_and_a_client_of_another_store_waits_for_its_own() {
     let mut place = Place::new("other-store", 73);
     let server = place.serve("own.db");
     let client = place.join(&server, 3);

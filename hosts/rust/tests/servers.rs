@@ -36,7 +36,7 @@ fn a_full_server_takes_a_client_when_another_one_has_left() {
     let refused = second().timeout(Duration::from_secs(3)).join().unwrap_err();
     let full = Refusal::Full { connections: 1 };
     assert!(matches!(refused.kind, JoinErrorKind::Unserved(why) if why == full), "{refused:?}");
-    assert_eq!(refused.to_string(), "the server has all its connections, which are 1");
+    assert_eq!(refused.to_string(), "the server has 1 connections, and takes no more");
     first.leave().unwrap();
     assert!(wait_until(|| server.status().connections == 0));
     second().join().unwrap().leave().unwrap();

@@ -136,7 +136,7 @@ fn errors_name_the_shard() {
 }
 
 #[test]
-fn a_client_of_some_keys_joins_their_shards_alone() {
+fn a_client_of_some_keys_joins_only_their_shards() {
     let mut world = World::new("keys");
     world.insert_rows([10, 300]);
     world.servers.remove(0).stop().unwrap();

@@ -135,7 +135,7 @@ fn a_full_server_reports_so_and_waits_for_no_stranger() {
 }
 
 #[test]
-fn names_of_the_table_count_alone() {
+fn only_names_of_the_table_count() {
     let setup = Setup::new("table");
     let orders = |names: &[&str]| setup.config(names).for_table("orders".parse().unwrap());
     let server = serve_with(&orders(&["krl:server@orders"]));
@@ -159,7 +159,7 @@ fn credulous(setup: &Setup, names: Option<&[&str]>) -> SslConnectorBuilder {
     connector
 }
 
-/// What a peer receives that sends this by TLS, if its hand-shake succeeds.
+/// What a peer receives that sends this by TLS, if its handshake succeeds.
 fn received_by_tls(connector: SslConnectorBuilder, at: SocketAddr, request: &[u8]) -> Vec<u8> {
     let stream = TcpStream::connect(at).unwrap();
     stream.set_read_timeout(Some(AT_ONCE)).unwrap();
@@ -299,7 +299,7 @@ fn idle_strangers_keep_nobody_out() {
 fn a_peer_that_sends_a_byte_now_and_then_is_rejected_by_the_deadline() {
     let setup = Setup::new("slow");
     let server = serve(&setup);
-    // The head of a record of a hand-shake, whose rest never comes.
+    // The head of a record of a handshake, whose rest never comes.
     let mut stream = TcpStream::connect(at(&server)).unwrap();
     stream.set_read_timeout(Some(Duration::from_millis(300))).unwrap();
     stream.write_all(&[22, 3, 1, 0x10, 0, 1]).unwrap();
@@ -363,7 +363,7 @@ fn a_server_shows_a_new_certificate_to_who_comes_then() {
 }
 
 #[test]
-fn a_server_listens_by_plain_tcp_on_the_loopback_alone() {
+fn a_server_listens_over_plain_tcp_only_on_the_loopback() {
     let beyond = || Listener::bind(&"plain:0.0.0.0:0".parse().unwrap()).unwrap();
     let refused = Server::start(beyond(), MemoryStore::default()).unwrap_err();
     assert!(refused.to_string().contains("beyond the loopback"), "{refused}");

@@ -80,7 +80,7 @@ fn a_shorter_reach_takes_more_requests() {
 /// A slot for which a reader has to wait ends a grant. What was granted before it stays, and the
 /// next request begins there and continues to the end of the range.
 #[test]
-fn a_read_goes_on_after_a_shorter_grant() {
+fn a_read_continues_after_a_shorter_grant() {
     let world = World::new("waits", Reach::default());
     let (reader, writer) = (world.join(0), world.join(1));
     let (_, pin) = writer.pin_for_write(500..501).unwrap();

@@ -40,7 +40,7 @@ fn judge_one(certificate: &Certificate, now: i64, days: u32) -> (String, bool) {
         return (format!("it has expired {} ago", length(-left)), false);
     }
     if certificate.valid_from > now {
-        return (format!("it is valid only in {}", length(certificate.valid_from - now)), false);
+        return (format!("it becomes valid in {}", length(certificate.valid_from - now)), false);
     }
     let is_valid = left >= i64::from(days) * DAY;
     let wanted = if is_valid { String::new() } else { format!(", and not for {days} days") };

@@ -33,7 +33,7 @@ macro_rules! statuses_and {
         concat!(
             "\
 Exit statuses:
-  0  it is done; a server that was stopped has stopped in order
+  0  it is done; a server that was stopped has shut down cleanly
   1  it failed, and standard error has the reason
   2  the command line, the environment, the configuration file or a certificate is wrong
   3  the store of a server lacks what a client has seen of it: see docs/STORES.md",
@@ -75,7 +75,7 @@ pub enum Command {
     Serve(ServeOptions),
     /// Print the settings that `serve` would use, and where each comes from
     Config(ServeOptions),
-    /// Print what a server shows of itself
+    /// Print the status of a server
     Status(PageOptions),
     /// List the clients: who is connected, since when each is silent, and what it waits for
     #[command(long_about = "\
@@ -103,13 +103,13 @@ server that stands by, or waits for reports of clients, is alive and not ready."
 Print who holds which slots of a range, in which mode, and who waits there.
 
 A slot is the key of a row and the gap below it; the last slot has the gap after all rows. Without
-a range the whole table is meant.")]
+a range it prints the whole table.")]
     Locks(LocksOptions),
-    /// End for good a client whose process is dead
+    /// Evict a client whose process is dead
     #[command(long_about = "\
-End for good a client whose process is dead.
+Evict a client whose process is dead.
 
-What the client held is free then, and a server that starts again does not wait for it. A client
+What the client held is then free, and a server that starts again does not wait for it. A client
 that has a lease is evicted when that ends, and the server does so by itself: this command waits for
 it, a minute at most. A client without one is evicted at once. Do so only when its process is dead,
 not when it is silent: one that still runs would continue to answer from its cache with outdated
@@ -137,9 +137,9 @@ rows.")]
         /// The new file. The server makes it, with the rights of the server's process
         file: PathBuf,
     },
-    /// Make a new store of a backup, on which a server serves at once
+    /// Make a new store from a backup, on which a server serves at once
     #[command(long_about = "\
-Make a new store of a backup, on which a server serves at once.
+Make a new store from a backup, on which a server serves at once.
 
 What was written after the backup is lost. All clients have to be stopped before: one that still
 runs may know of writes that the backup does not have, and would continue to answer from its cache
@@ -167,9 +167,9 @@ The rows from the key on move to the new store, and the rows below it stay. Both
 what is known of clients. No server may run on the store, and each client has to have left: one that
 has not is named. Then start a server on each of the two, and give all clients a map of both.
 
-If it is killed, repeat it with the same words, and remove no file: the new store may have the only
-copy of the rows that moved. It continues whether the new store is missing, has a copy of the rows
-that move, or has their only copy; and if it had ended, it changes nothing.")]
+If it is killed, repeat it with the same arguments, and remove no file: the new store may have the
+only copy of the rows that moved. It continues whether the new store is missing, has a copy of the
+rows that move, or has their only copy; and if it had ended, it changes nothing.")]
     Split {
         /// The store
         store: PathBuf,
@@ -190,9 +190,9 @@ Make one new store of two neighboring ones.
 
 The two are only read. The keys of the lower one have to lie below all keys of the upper one, and
 each client has to have left both. The new store has the greater epoch of the two. Serve it in place
-of both: a server that still ran on one of them would show rows that nobody changes any more.
+of both: a server on one of them would show rows that no longer change.
 
-If it is killed, repeat it with the same words.")]
+If it is killed, repeat it with the same arguments.")]
     Merge {
         /// The store with the lower keys
         lower: PathBuf,
@@ -212,9 +212,9 @@ change, and their calls there wait. When all have left, the servers of these sha
 --stop, the stores are changed, and the servers are started again by --start and --start-new. All other
 servers and their clients continue. A store is a file of SQLite, or in etcd or PostgreSQL, as for serve.
 
-If it is killed, repeat it with the same words: it continues where it was. If clients have not left
-within --wait seconds, it names them and takes its first step back: the map is then as it was before,
-by a version that is greater by two, and nothing has changed.")]
+If it is killed, repeat it with the same arguments: it continues where it was. If clients have not
+left within --wait seconds, it names them and takes its first step back: the map is then as it was
+before, but its version is greater by two, and nothing has changed.")]
     Reshard {
         #[command(subcommand)]
         change: LiveChange,
@@ -230,16 +230,16 @@ servers and clients follow. A map takes only the place of one of a lesser versio
         #[command(subcommand)]
         command: MapCommand,
     },
-    /// Write the rows of a file of CSV or JSON lines to a store that no server serves
+    /// Write the rows of a CSV or JSON Lines file to a store that no server serves
     #[command(long_about = "\
-Write the rows of a file of CSV or JSON lines to a store that no server serves.
+Write the rows of a CSV or JSON Lines file to a store that no server serves.
 
-All rows are written, or none. A file of SQLite that is there keeps its other rows; no server may run
-on it, and each client has to have left: one that has not is named. A store that is not there is made.
-If it is killed, repeat it: if the store has all rows of the file, it changes nothing. While a server
+All rows are written, or none. A SQLite file that exists keeps its other rows; no server may run on
+it, and each client has to have left: one that has not is named. A store that is missing is made. If
+it is killed, repeat it: if the store has all rows of the file, it changes nothing. While a server
 serves the store, krl-client import does the same, row by row.")]
     Import {
-        /// The file, or - for standard input: JSON lines if its name ends in .jsonl, .ndjson or
+        /// The file, or - for standard input: JSON Lines if its name ends in .jsonl, .ndjson or
         /// .json, otherwise CSV
         file: PathBuf,
         /// The store: a file of SQLite, which is made if there is none; a new place in a cluster,
@@ -247,22 +247,22 @@ serves the store, krl-client import does the same, row by row.")]
         /// <postgres://krl@10.0.0.1/orders?sslmode=verify-full>
         #[arg(long, value_name = "STORE")]
         store: StorePlace,
-        /// What is done with a row whose key has a row in the store
+        /// What to do with a row whose key has a row in the store already
         #[arg(long, value_enum, default_value = "refuse")]
         existing: Existing,
-        /// The file is JSON lines, whatever its name is
+        /// The file is JSON Lines, whatever its name is
         #[arg(long)]
         json: bool,
     },
-    /// Print the rows of a store or a backup as CSV, or as JSON lines
+    /// Print the rows of a store or a backup as CSV, or as JSON Lines
     #[command(long_about = "\
-Print the rows of a store or a backup as CSV, or as JSON lines.
+Print the rows of a store or a backup as CSV, or as JSON Lines.
 
 No server may run on it. While one does, krl-client export does the same.")]
     Export {
         /// The store or the backup, a file of SQLite. It is only read
         file: PathBuf,
-        /// Print JSON lines
+        /// Print JSON Lines
         #[arg(long)]
         json: bool,
     },
@@ -271,9 +271,9 @@ No server may run on it. While one does, krl-client export does the same.")]
     #[command(long_about = "\
 Show what a store holds, and whether a server can start on it; or until when certificates last.
 
-Of a backup, or another store that no server has served since it was made, it compares the checksum.
-The exit status is 1 if no server can start on the store, if it is damaged, or if a certificate is not
-valid now and for that many days.")]
+It compares the checksum of a backup, or of another store that no server has served since it was
+made. The exit status is 1 if no server can start on the store, if it is damaged, or if a
+certificate is not valid now and for --days more days.")]
     Check {
         /// The store, which no server may run on; or a file of certificates, as PEM. It is only
         /// read
@@ -282,7 +282,7 @@ valid now and for that many days.")]
         #[arg(long, default_value_t = 0)]
         days: u32,
     },
-    /// Print a script for a shell that completes the words of krl-server
+    /// Print a script by which a shell completes commands and options of krl-server
     Completion {
         /// The shell
         shell: Shell,
@@ -381,7 +381,7 @@ pub struct ServeOptions {
     pub config: Option<PathBuf>,
 }
 
-/// What is shown by TLS, and whom it believes.
+/// What is shown by TLS, and whom it trusts.
 pub type TlsOptions = Flags<OfTls>;
 
 /// The settings that are given by these flags, or by the environment.

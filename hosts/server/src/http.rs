@@ -59,7 +59,7 @@ impl StatusPort {
         };
         if !is_place(place) {
             return Err(BadSetting::new(format!(
-                "'{address}' is no address of a status port, such as {} or tls:db1:7401",
+                "'{address}' is not an address of a status port, such as {} or tls:db1:7401",
                 key::STATUS.default
             )));
         }
@@ -110,7 +110,7 @@ impl Reply {
             StatusCode::BAD_REQUEST | StatusCode::FORBIDDEN | StatusCode::SERVICE_UNAVAILABLE => {
                 Err(format!("{port} refuses: {}", self.text.trim_end()))
             }
-            status => Err(format!("{port} is no status port of krl: it answered {status}")),
+            status => Err(format!("{port} is not a status port of krl: it answered {status}")),
         }
     }
 }

@@ -108,7 +108,7 @@ impl Question {
         }
         if let Some(next) = locks.next {
             let hi = self.points.end;
-            lines.push(format!("there are more from {next} on: ask for {next} to {hi} next"));
+            lines.push(format!("there are more from {next} on: ask for {next} to {hi}"));
         }
         lines.join("\n") + "\n"
     }

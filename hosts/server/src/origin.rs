@@ -12,7 +12,7 @@ use std::net::{IpAddr, Ipv6Addr};
 /// names has to be an address, `localhost`, or the name at which the port is configured to listen.
 pub fn refusal(headers: &HeaderMap, asker: Asker, own_name: Option<&str>) -> Option<String> {
     if headers.contains_key(ORIGIN) {
-        return Some("a web page has sent this request: none is answered\n".to_string());
+        return Some("a web page has sent this request: it is not answered\n".to_string());
     }
     let host = headers.get(HOST)?;
     let is_own = |host: &str| is_own(host, own_name);

@@ -137,7 +137,7 @@ impl Seen {
 async fn ask(port: &StatusPort) -> Answer {
     let reply = http::fetch(port, "/status.json", crate::pages::JSON, WAIT).await?;
     let text = reply.page_of(port)?;
-    report_of(&text).map_err(|error| format!("{port} is no status port of krl: {error}"))
+    report_of(&text).map_err(|error| format!("{port} is not a status port of krl: {error}"))
 }
 
 fn report_of(text: &str) -> serde_json::Result<Report> {

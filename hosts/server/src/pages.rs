@@ -175,7 +175,7 @@ fn guards(kind: &str) -> impl Iterator<Item = (&'static str, &'static str)> {
 }
 
 fn refused_method(allowed: &'static str) -> Response<Body> {
-    let text = format!("this takes only {allowed}\n");
+    let text = format!("only {allowed} is allowed here\n");
     let mut response = response(Page::text(StatusCode::METHOD_NOT_ALLOWED, text));
     response.headers_mut().insert(ALLOW, allowed.parse().expect("a constant"));
     response
@@ -313,7 +313,7 @@ async fn locks_page(query: &str, as_json: bool, monitor: Monitor) -> Page {
         Ok(Ok(locks)) if as_json => Page::new(StatusCode::OK, JSON, question.as_json(&locks)),
         Ok(Ok(locks)) => Page::text(StatusCode::OK, question.as_text(&locks)),
         Ok(Err(error)) => Page::text(StatusCode::SERVICE_UNAVAILABLE, format!("{error}\n")),
-        Err(_) => Page::text(StatusCode::INTERNAL_SERVER_ERROR, "the question panicked\n"),
+        Err(_) => Page::text(StatusCode::INTERNAL_SERVER_ERROR, "the answer panicked\n"),
     }
 }
 

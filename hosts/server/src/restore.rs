@@ -12,7 +12,7 @@ const FAR: u64 = 1 << 32;
 
 /// Why the operator has to confirm that all clients are stopped.
 const CLIENTS_LIVE: &str = "\
-    stop every client's process first, and confirm that by --clients-are-stopped: one that still \
+    stop every client's process first, and confirm that with --clients-are-stopped: one that still \
     runs may know of writes that the backup does not have, and would continue to answer from its \
     cache with outdated rows";
 

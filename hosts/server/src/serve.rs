@@ -37,7 +37,7 @@ const ENDED_AT_ONCE: i32 = 1;
 /// start it again: over the same store it would serve, and nobody might notice.
 const OLDER_STORE: u8 = 3;
 
-/// Serves until a signal comes, and then stops in order. What goes wrong is logged.
+/// Serves until a signal comes, and then shuts down cleanly. What goes wrong is logged.
 pub fn serve(settings: &Settings) -> ExitCode {
     let _log = match log::start(settings) {
         Ok(log) => log,

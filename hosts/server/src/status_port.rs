@@ -30,7 +30,7 @@ const HEAD: Duration = Duration::from_secs(5);
 /// The most bytes of a head.
 const MAX_HEAD: usize = 1 << 14;
 
-/// How long a hand-shake may take.
+/// How long a handshake may take.
 const HANDSHAKE: Duration = Duration::from_secs(5);
 
 /// How long a connection may take from its request on, unless its order is carried out.
@@ -149,7 +149,7 @@ async fn answer_operator(
     let why = match timeout(HANDSHAKE, tls_stream::shake(stream, session)).await {
         Ok(Ok((stream, peer))) => {
             if !peer.is_operator() {
-                log_refused(address, &format!("{peer} is no operator"), refused);
+                log_refused(address, &format!("{peer} is not an operator"), refused);
                 return refuse(stream, peer).await;
             }
             guest.visit.take_place();

@@ -9,7 +9,7 @@ use tokio::io::{AsyncRead, AsyncWrite, ReadBuf};
 use tokio::net::TcpStream;
 use tokio_openssl::SslStream;
 
-/// The most bytes that come in a hand-shake: a chain of certificates has a few thousand.
+/// The most bytes that come in a handshake: a chain of certificates has a few thousand.
 const LONGEST_HANDSHAKE: usize = 1 << 16;
 
 /// The socket under TLS.
@@ -40,7 +40,7 @@ impl AsyncRead for Socket {
         room: &mut ReadBuf<'_>,
     ) -> Poll<io::Result<()>> {
         if self.left == 0 {
-            let error = io::Error::new(ErrorKind::InvalidData, "the hand-shake does not end");
+            let error = io::Error::new(ErrorKind::InvalidData, "the handshake does not end");
             return Poll::Ready(Err(error));
         }
         let before = room.filled().len();
@@ -124,6 +124,6 @@ mod tests {
         };
         let (refused, ()) = tokio::join!(shake(ours, session), sends);
         let refused = refused.unwrap_err().to_string();
-        assert!(refused.contains("the hand-shake does not end"), "{refused}");
+        assert!(refused.contains("the handshake does not end"), "{refused}");
     }
 }

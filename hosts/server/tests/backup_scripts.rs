@@ -62,7 +62,7 @@ fn a_backup_has_a_date_and_is_restored_in_a_rehearsal() {
     std::fs::write(backup, bytes).unwrap();
     let refused = rehearse(&backups_at);
     assert_eq!(refused.status.code(), Some(1));
-    assert!(errors(&refused).contains("is no good backup"), "{}", errors(&refused));
+    assert!(errors(&refused).contains("is not a good backup"), "{}", errors(&refused));
     assert!(errors(&refused).contains("it does not match"), "{}", errors(&refused));
 }
 

@@ -91,7 +91,7 @@ fn a_store_that_is_there_takes_all_rows_or_none() {
     let after = SqliteStore::read(&store).unwrap().snapshot;
     assert_eq!((after.epoch, after.first_start), (1, before.snapshot.first_start));
     for (text, message) in
-        [("1,a\nx,b\n", "line 2: 'x' is no key"), ("1,a\n1,b\n", "line 2: the key 1")]
+        [("1,a\nx,b\n", "line 2: 'x' is not a key"), ("1,a\n1,b\n", "line 2: the key 1")]
     {
         let (status, printed) = ended(&import(&folder.file("bad.csv", text), &store, &[]));
         assert_eq!(status, Some(2));

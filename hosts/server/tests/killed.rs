@@ -1,5 +1,5 @@
 //! Commands that are killed before each of their changes of a file, and repeated with the same
-//! words: nothing is lost, doubled or left unfinished.
+//! arguments: nothing is lost, doubled or left unfinished.
 mod common;
 
 use common::{Serving, errors, killer, program, run, text};

@@ -82,7 +82,7 @@ fn full() -> File {
 }
 
 #[test]
-fn a_server_whose_log_is_on_a_full_disk_goes_on_and_counts() {
+fn a_server_whose_log_is_on_a_full_disk_continues_and_counts() {
     let mut server = Deaf::start(full());
     server.serves_a_client();
     until("lost lines are counted", || server.lost_lines() > 0);
@@ -90,7 +90,7 @@ fn a_server_whose_log_is_on_a_full_disk_goes_on_and_counts() {
 }
 
 #[test]
-fn a_server_whose_log_has_lost_its_reader_goes_on() {
+fn a_server_whose_log_has_lost_its_reader_continues() {
     let (reader, writer) = std::io::pipe().unwrap();
     drop(reader);
     let mut server = Deaf::start(writer);
@@ -100,7 +100,7 @@ fn a_server_whose_log_has_lost_its_reader_goes_on() {
 }
 
 #[test]
-fn a_server_whose_log_nobody_reads_goes_on() {
+fn a_server_whose_log_nobody_reads_continues() {
     let (reader, writer) = std::io::pipe().unwrap();
     // It ends when the pipe is full.
     let mut fills = Command::new("dd");

@@ -118,9 +118,9 @@ fn the_other_servers_of_a_table_stand_on_the_page_of_each() {
 #[test]
 fn the_address_of_another_server_is_judged_at_the_start() {
     for (others, message) in [
-        ("here", "others: 'here' is no address of a status port"),
+        ("here", "others: 'here' is not an address of a status port"),
         ("tls:db3:7401", "others: tls:db3:7401 is an address of TLS, and needs --tls-authority"),
-        ("a\"b:1", "is no address of a status port"),
+        ("a\"b:1", "is not an address of a status port"),
     ] {
         let refused = common::run(&["config", "--others", others]);
         assert_eq!(refused.status.code(), Some(2), "{others}");

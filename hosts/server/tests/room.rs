@@ -55,7 +55,7 @@ fn shown(serving: &Serving) -> usize {
     page["room"].as_u64().unwrap().try_into().unwrap()
 }
 
-/// The room that a server shows, which then ends in order, and what it has logged.
+/// The room that a server shows, which then shuts down cleanly, and what it has logged.
 fn shown_to_the_end(serving: Serving) -> (usize, Ended) {
     let room = shown(&serving);
     serving.signal(&["TERM"]);

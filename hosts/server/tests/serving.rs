@@ -411,7 +411,7 @@ fn what_is_no_store_is_reported() {
     let words = ["serve", "--listen", "127.0.0.1:0", "--status", "off", "--store"];
     let output = program().args(words).arg(&file).output().unwrap();
     assert_eq!(output.status.code(), Some(1));
-    assert!(errors(&output).contains("no database of SQLite"), "{}", errors(&output));
+    assert!(errors(&output).contains("not a database of SQLite"), "{}", errors(&output));
     assert!(!folder.path().join("text.lock").exists(), "it is left as it was");
 }
 

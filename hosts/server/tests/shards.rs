@@ -21,7 +21,7 @@ fn join(serving: &Serving, shard: &str, lock_file: &Path) -> Result<Client, Join
 }
 
 #[test]
-fn a_server_of_a_shard_serves_its_clients_alone() {
+fn a_server_of_a_shard_serves_only_its_clients() {
     let folder = tempfile::tempdir().unwrap();
     let (store, lock) = (folder.path().join("krl.db"), folder.path().join("3.lock"));
     let serving = serve(&store, "0..500@3");

@@ -106,7 +106,7 @@ fn strangers_at_ports_of_tls_take_little_and_leave_it() {
         ["--tls-authority", &authority, "--tls-certificate", &certificate, "--tls-key", &key];
     let serving = serve(folder.path(), &[&words[..], &shows].concat());
     let before = held(&serving);
-    // The record of a hand-shake of 16 KiB, which is not whole.
+    // The record of a handshake of 16 KiB, which is not whole.
     let mut hello = vec![22, 3, 1, 0x40, 0];
     hello.resize(16 * KIB, 1);
     for at in [serving.address.to_string(), serving.status.clone()] {

@@ -114,7 +114,7 @@ impl Setup {
 }
 
 #[test]
-fn operators_alone_see_the_status_and_order_backups() {
+fn only_operators_see_the_status_and_order_backups() {
     let setup = Setup::new(&["server", "operator", "client-3"]);
     let serving = setup.serve();
     let client = setup.join(&serving, 3).unwrap();
@@ -349,10 +349,10 @@ fn a_certificate_that_is_refused_is_logged_with_its_subject() {
     until("it is counted", || serving.sample(failed) > 0.0);
     serving.signal(&["TERM"]);
     let log = serving.ended().log;
-    let message = "a connection is closed: the hand-shake of TLS failed";
+    let message = "a connection is closed: the handshake of TLS failed";
     let event = log.iter().find(|event| event["message"] == message).expect(message);
     let why = event["why"].as_str().unwrap();
-    assert!(why.contains("(CN=krl client-3) is not taken: certificate has expired"), "{why}");
+    assert!(why.contains("(CN=krl client-3) is not accepted: certificate has expired"), "{why}");
     assert!(event["peer"].as_str().unwrap().starts_with("127.0.0.1:"), "{event}");
 }
 

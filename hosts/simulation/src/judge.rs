@@ -86,7 +86,7 @@ impl Judge {
         }
     }
 
-    /// The version of now.
+    /// /// The current version.
     #[must_use]
     pub fn version(&self) -> Version {
         self.steps.len()
@@ -171,7 +171,7 @@ impl Judge {
         }
     }
 
-    /// Whether the table of now has these rows of the range, or that of the window has.
+    /// Whether the current table has these rows of the range, or that of the window has.
     #[must_use]
     pub fn has(&self, keys: &Range<u64>, answer: &[Row], when: &Window) -> bool {
         self.any(when, |table| shows(table, keys, answer))

@@ -24,13 +24,13 @@ use std::time::Duration;
 /// How many products the shop has. Their numbers are 0 and those after it.
 const PRODUCTS: u64 = 1000;
 
-/// So many products lie on a shelf.
+/// This many products lie on a shelf.
 const SHELF: u64 = 10;
 
 /// Most customers look at these products.
 const POPULAR: u64 = 20;
 
-/// So many processes run the shop.
+/// This many processes run the shop.
 const PROCESSES: u8 = 3;
 
 type Found<T> = Result<T, Box<dyn Error + Send + Sync>>;

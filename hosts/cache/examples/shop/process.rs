@@ -9,7 +9,7 @@ use std::ops::Range;
 use std::str::FromStr;
 use std::time::{Duration, Instant};
 
-/// One call of so many sells a product.
+/// One call of this many sells a product.
 const SELLS: u64 = 200;
 
 /// How often a process reports.
@@ -60,8 +60,8 @@ impl FromStr for Report {
     }
 }
 
-/// A process of this number. A line of a number on standard input is a turn of so many milliseconds;
-/// it ends with the input. Each turn ends with an empty line.
+/// A process of this number. A line of a number on standard input is a turn of this many
+/// milliseconds; it ends with the input. Each turn ends with an empty line.
 pub fn run(way: Way, number: u8, place: &Place) -> Found<()> {
     let shop: Box<dyn Shop> = match (way, &place.redis) {
         (Way::Krl, _) => Box::new(Cached::open(place)?),

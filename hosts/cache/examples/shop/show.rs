@@ -144,7 +144,7 @@ impl Drop for Worker {
 /// The table on the terminal.
 struct Shown {
     is_terminal: bool,
-    /// So many lines are drawn again.
+    /// This many lines are drawn again.
     lines: usize,
 }
 

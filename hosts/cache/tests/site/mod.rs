@@ -1,5 +1,5 @@
-//! A database, a server of krl, and what stands for the extension: functions in SQL, and a client of
-//! krl that takes back what the test says.
+//! A database, a server of krl, and what stands for the extension: functions in SQL, and a client
+//! of krl that takes back what the test names.
 #![allow(dead_code, reason = "each test uses a part of it")]
 use krl::{Client, MemoryStore, Outcome, Server, Value};
 use krl_cache::{Cache, Row, Table};
@@ -111,7 +111,7 @@ impl Site {
         self.cache_of(64 << 20)
     }
 
-    /// One that keeps so many bytes.
+    /// One that keeps this many bytes.
     pub fn cache_of(&self, memory: usize) -> Cache {
         let builder = Cache::builder(self.database.address(), self.folder.join("locks"));
         builder.memory(memory).timeout(LONG).open().unwrap()

@@ -37,7 +37,7 @@ static krlc_write write_of(krlc_kind kind, uint64_t key, const char *value) {
     return write;
 }
 
-/* Several writes in one wait: with a map, at both shards. Afterwards the table is what it was. */
+/* Several writes in one call: with a map, at both shards. Afterwards the table is what it was. */
 static void several(krlc_client *client, krlc_rows *rows) {
     krlc_write writes[] = {
         write_of(KRLC_INSERT, 20, "twenty"), write_of(KRLC_INSERT, 160, "far"),  write_of(KRLC_INSERT, 20, "again"),

@@ -103,7 +103,7 @@ impl std::str::FromStr for Mix {
         parts
             .filter(|(reads, writes)| reads.checked_add(*writes) == Some(100))
             .map(|(reads, _)| Mix { reads })
-            .ok_or_else(|| "two numbers with the sum 100 are expected, such as 95,5".into())
+            .ok_or_else(|| "two numbers whose sum is 100 are expected, such as 95,5".into())
     }
 }
 

@@ -131,7 +131,7 @@ mod tests {
     }
 
     #[test]
-    fn few_slow_calls_show_in_the_last_quantile_alone() {
+    fn few_slow_calls_show_only_in_the_last_quantile() {
         let few_slow = of((0..9980).map(|_| 10).chain((0..20).map(|_| 5_000_000)));
         let quantiles = [500, 990, 999].map(|it| few_slow.quantile(it).as_nanos());
         assert_eq!(quantiles, [10, 10, 5_000_000]);

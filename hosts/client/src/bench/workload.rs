@@ -163,7 +163,7 @@ impl ReadingWorker {
     }
 }
 
-/// So many keys from this place on, or the last ones.
+/// This many keys from this place on, or the last ones.
 fn keys_from(keys: &Range<u64>, place: u64, rows: u64) -> Range<u64> {
     let lo = (keys.start + place).min(keys.end - rows);
     lo..lo + rows

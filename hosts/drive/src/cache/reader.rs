@@ -25,7 +25,7 @@ const AWAY: Duration = Duration::from_millis(20);
 /// How often a process notes what it has counted.
 const COUNTS: Duration = Duration::from_millis(100);
 
-/// A read is of at most so many keys.
+/// A read is of at most this many keys.
 const MOST_KEYS: u64 = 6;
 
 /// What the threads of a process share.

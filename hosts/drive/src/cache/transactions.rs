@@ -6,7 +6,8 @@ use krl_testing::database::Sql;
 use std::thread;
 use std::time::Duration;
 
-/// Of a hundred transactions so many are prepared, rolled back, or wait before they are committed.
+/// Of a hundred transactions this many are prepared, rolled back, or wait before they are
+/// committed.
 const PREPARED: u64 = 7;
 const ROLLED_BACK: u64 = 5;
 const LATE: u64 = 5;
@@ -14,7 +15,7 @@ const LATE: u64 = 5;
 /// A prepared transaction, or a late one, waits for at most this many milliseconds.
 const LONGEST_WAIT: u64 = 300;
 
-/// One transaction of so many is of a kind that heeds no snapshot.
+/// One transaction of this many is of a kind that heeds no snapshot.
 const HEEDS_NO_SNAPSHOT: u64 = 150;
 
 type Kind = fn(&mut Draws) -> String;

@@ -322,7 +322,7 @@ fn a_store_has_more_buckets_once_its_room_is_raised() {
 }
 
 #[test]
-fn a_server_goes_on_to_add_buckets_where_one_before_has_ended() {
+fn a_server_continues_to_add_buckets_where_one_before_has_ended() {
     let Some(cluster) = Cluster::start() else { return };
     let address = cluster.address("half");
     let (rows, room) = ((0..5_000).map(|key| (key, key.into())).collect(), Room::of(100_000).ok());

@@ -156,6 +156,18 @@ fn what_no_server_commits_is_not_loaded() {
 }
 
 #[test]
+fn a_store_of_a_later_version_is_refused_by_its_number() {
+    let Some(database) = Database::start() else { return };
+    loaded(&database).0.commit(&[Change::Started { epoch: 1 }]).unwrap();
+    database.connect().run("UPDATE krl.head SET format = 4");
+    let error = open(&database).load().unwrap_err().to_string();
+    assert!(
+        error.contains("the store has version 4, and this program reads versions up to 3"),
+        "{error}"
+    );
+}
+
+#[test]
 fn a_load_makes_nothing_where_there_is_no_store() {
     let Some(database) = Database::start() else { return };
     let sql = database.connect();

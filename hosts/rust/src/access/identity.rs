@@ -349,7 +349,7 @@ mod tests {
     }
 
     #[test]
-    fn a_name_counts_at_its_own_table_alone() {
+    fn a_name_counts_only_at_its_own_table() {
         let names = ["krl:client:3@orders", "krl:operator@stock", "krl:client:4"];
         assert_eq!(of(&names, Some("orders")), "3".parse().ok());
         assert_eq!(of(&names, Some("stock")), "operator".parse().ok());

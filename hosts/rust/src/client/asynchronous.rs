@@ -19,14 +19,14 @@ use std::time::Duration;
 /// poll a task within the call that wakes it.
 ///
 /// Each call is that of [`Client`] of the same name, with its outcomes and errors, over one server
-/// or several, and ends by the [`Client::timeout`] of the client that this one was made of, or a
+/// or several, and ends by the [`Client::timeout`] of the client from which this one was made, or a
 /// little later while the client connects. A call begins when its future is first polled. A read
 /// that the cache answers does not yield. A future that is dropped before it ends gives its call
-/// up: of a write that was sent nobody knows then whether it was made.
+/// up: if a write was sent, nobody knows then whether it was made.
 ///
-/// Two things wait without a future: to join, and the drop of the last clone, which waits a second
-/// at most until the server has kept that the client left. So join before the executor runs or on a
-/// thread that may wait, and [`AsyncClient::leave`] before the last clone is dropped.
+/// Two things block without a future: joining, and dropping the last clone, which waits a second at
+/// most until the server has kept that the client left. So join before the executor runs or on a
+/// thread that may block, and await [`AsyncClient::leave`] before the last clone is dropped.
 ///
 /// ```
 /// use krl::{AsyncClient, Client, MemoryStore, Outcome, Server, Value};
@@ -320,8 +320,8 @@ pub struct AsyncChanges {
 }
 
 impl AsyncChanges {
-    /// Waits for the next state, or for the end of the client: then it is `None`. A future that is
-    /// dropped before it ends misses no last state.
+    /// Waits for the next state, or for the end of the client: then it is `None`. If its future is
+    /// dropped before it ends, the last state is not lost.
     pub async fn next(&mut self) -> Option<Result<Vec<Row>, Error>> {
         loop {
             if let Some(rows) = &self.last {

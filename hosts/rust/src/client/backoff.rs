@@ -7,8 +7,8 @@ use std::time::Duration;
 const FIRST: Duration = Duration::from_millis(5);
 const LONGEST: Duration = Duration::from_secs(1);
 
-/// The pauses between attempts: each is twice the one before, and up to a quarter longer by chance,
-/// so that clients that lost one server do not all come back to it at once.
+/// The pauses between attempts: each is twice the one before, and up to a random quarter longer, so
+/// that clients that lost one server do not all come back to it at once.
 #[derive(Debug)]
 pub(crate) struct Backoff {
     pause: Duration,
@@ -18,16 +18,16 @@ pub(crate) struct Backoff {
 }
 
 impl Backoff {
-    /// Pauses between attempts at so many servers in turn, each drawn by the seed. Two clients should
-    /// have different seeds: see [`seed`].
+    /// Pauses between attempts at this many servers in turn, each drawn by the seed. Two clients
+    /// should have different seeds: see [`seed`].
     pub fn among(servers: usize, seed: u64) -> Backoff {
         let servers = u32::try_from(servers.max(1)).unwrap_or(u32::MAX);
         Backoff { pause: FIRST, longest: FIRST.max(LONGEST / servers), state: seed.max(1) }
     }
 
     /// The client has accepted a message of the server: the next pause is the first one again. A
-    /// connection alone is no reason, since a server that has no room takes it and ends it. Nor is
-    /// a message that ends the connection, as one of another version.
+    /// connection by itself is no reason, since a server that has no room takes it and ends it. Nor
+    /// is a message that ends the connection, as one of another version.
     pub fn reset(&mut self) {
         self.pause = FIRST;
     }
@@ -48,7 +48,7 @@ impl Backoff {
     }
 }
 
-/// A seed by chance. The standard library seeds its hashes so.
+/// A random seed, as the standard library seeds its hashes.
 pub(crate) fn seed() -> u64 {
     RandomState::new().build_hasher().finish()
 }

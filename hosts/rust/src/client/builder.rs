@@ -51,7 +51,7 @@ impl ClientBuilder {
         }
     }
 
-    /// What the client shows to its servers if they listen by TLS, and whom it believes. It is
+    /// What the client shows to its servers if they listen over TLS, and whom it trusts. It is
     /// read again at each connect: after [`TlsConfig::reload`], the next connection shows what the
     /// files have then.
     ///
@@ -63,10 +63,10 @@ impl ClientBuilder {
         self
     }
 
-    /// The keys for which a client of a map is: all of them by default. It joins only the shards
-    /// that have some of these keys, so that a server of another shard may be down. A call with
-    /// keys of a shard that it has not joined is refused by `BadRange` or `BadKey`. A client of one
-    /// server has all keys.
+    /// The keys that a client of a map uses: all of them by default. It joins only the shards that
+    /// have some of these keys, so that a server of another shard may be down. A call with keys of
+    /// a shard that it has not joined is refused by `BadRange` or `BadKey`. A client of one server
+    /// has all keys.
     pub fn keys(mut self, keys: Range<u64>) -> ClientBuilder {
         self.keys = keys;
         self
@@ -170,10 +170,10 @@ fn wait(joining: std::io::Result<ScopedJoinHandle<'_, JoinedShard>>) -> JoinedSh
 impl Client {
     /// Joins one server, or all shards of a map, as the client of the first number that is free:
     /// [`Client::number`] returns which. The lock files are in the user's [`lock_folder`], so that
-    /// two processes of a user never take one number on one machine. The clients of other users and
-    /// machines are known by their leases: a number that the server reports as in use is passed
-    /// over. **A server without leases can't tell a silent client from one that is gone**: of such
-    /// a server, join by a number that no other process has.
+    /// two processes of a user never take one number on one machine. The server knows the clients
+    /// of other users and machines by their leases: a number that it reports as in use is skipped.
+    /// **A server without leases can't distinguish a silent client from one that is gone**: there,
+    /// join by a number that no other process has.
     ///
     /// ```no_run
     /// # use krl::{Client, Servers};

@@ -26,7 +26,7 @@ pub(crate) struct Calls<'c> {
 /// Why a write that waits for the next map ends at its deadline.
 const NOT_SENT: ErrorKind = ErrorKind::NotSent(Unsent::TimedOut);
 
-/// Makes a call by the map of now, and again by each next one for as long as its shard changes.
+/// Makes a call by the current map, and again by each next one for as long as its shard changes.
 macro_rules! by_each_map {
     ($calls:ident, $late:expr, $attempt:ident => $call:expr) => {
         loop {
@@ -56,7 +56,7 @@ impl<'c> Calls<'c> {
         Calls { waiting: Waiting::InTask, ..self }
     }
 
-    /// A call by the map of now. A pin stays with the map by which it was taken.
+    /// A call by the current map. A pin stays with the map by which it was taken.
     fn attempt(&self) -> Attempt<'c> {
         let joined = self.pin.map_or_else(|| self.table.now(), |pin| Arc::clone(pin.joined()));
         let Calls { table, pin, end, waiting } = *self;

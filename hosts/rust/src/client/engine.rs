@@ -17,7 +17,7 @@ use std::io;
 use std::ops::DerefMut;
 
 /// What has the session of a client. Nothing borrows the session while an incarnation is written,
-/// so callers of the client don't wait for the disk.
+/// so callers of the client do not wait for the disk.
 pub(crate) trait Shell {
     /// The session at this moment.
     fn session(&mut self) -> impl DerefMut<Target = Session>;

@@ -10,15 +10,15 @@ use std::time::{Duration, Instant};
 const LEASE_ENDS: Duration = Duration::from_secs(60);
 
 /// Ends the client of this number for good: an operator's call for a client whose process is gone
-/// and will not come back. A client with a greater incarnation sends Hello, which takes all from
-/// the old one, and then Bye.
+/// and will not come back. A client with a greater incarnation sends Hello, which takes everything
+/// from the old one, and then Bye.
 ///
 /// A client that has a lease is evicted when that ends: for this it waits a minute at most. While
 /// the client lives, its lease does not end, and it is not evicted. If the server knows a greater
 /// incarnation than the clock gives, as of a machine whose clock was ahead, the next one above that
-/// is taken. **The process of a client without a lease has to be dead.** One that still runs may go
-/// on to answer from its cache what is not so any more. On the client's own machine its lock file
-/// shows that it is; elsewhere nobody but the operator can know.
+/// is taken. **The process of a client without a lease has to be dead.** One that still runs may
+/// continue to answer from its cache with outdated rows. On the client's own machine its lock file
+/// shows that it is dead; elsewhere only the operator can know.
 ///
 /// # Errors
 ///

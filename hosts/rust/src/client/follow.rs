@@ -16,13 +16,13 @@ const LOOK: Duration = Duration::from_millis(50);
 
 impl Client {
     /// From now on the client follows the map in this file: it continues by each map that it finds
-    /// there whose version is greater than that of its own. Calls at shards that the next map has as
-    /// they are notice nothing. Calls at the others wait, and are made by the next map.
+    /// there whose version is greater than that of its own. Calls at shards that are the same in
+    /// the next map notice nothing. Calls at the others wait, and are made by the next map.
     ///
     /// The file has to be replaced at once, by a rename: `krl-server reshard` does so. It may be a
-    /// copy: a client that sees a map late waits for longer, and answers nothing outdated. What is
-    /// no map is logged and passed over, and so is a missing file. It looks at the file twenty times
-    /// a second, until the client leaves or is dropped.
+    /// copy: a client that sees a map late waits for longer, and answers nothing outdated. A file
+    /// that is not a map is logged and ignored, and so is a missing one. It looks at the file
+    /// twenty times a second, until the client leaves or is dropped.
     ///
     /// ```no_run
     /// # fn join() -> Result<(), Box<dyn std::error::Error>> {

@@ -31,7 +31,7 @@ pub struct LockFile {
 pub enum LockFileError {
     /// Another client of this number has it, in this or another process.
     Taken,
-    /// It has something else than a lock file of this number has.
+    /// It is not the lock file of this number.
     Strange,
     /// The file can't be read or written.
     File(io::Error),
@@ -159,7 +159,7 @@ impl fmt::Display for LockFileError {
                 "it is in use, by this or another process: give each client a number and a lock \
                  file of its own",
             ),
-            LockFileError::Strange => f.write_str("it is no lock file of this client number"),
+            LockFileError::Strange => f.write_str("it is not the lock file of this client number"),
             LockFileError::File(error) => write!(f, "it can't be used: {error}"),
         }
     }
@@ -237,7 +237,7 @@ mod tests {
     }
 
     #[test]
-    fn another_file_is_left_alone() {
+    fn another_file_stays_as_it_is() {
         let path = path("other");
         for text in
             ["hello\n", "krl client 04 incarnation 00000000000000000001\n", "krl client 03 "]

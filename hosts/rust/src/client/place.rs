@@ -23,7 +23,7 @@ impl Place {
         }
     }
 
-    /// The same place, whose servers are shown this if they listen by TLS.
+    /// The same place, whose servers are shown this if they listen over TLS.
     #[cfg(feature = "tls")]
     pub(crate) fn with_tls(self, config: TlsConfig) -> Place {
         match self {

@@ -82,7 +82,7 @@ impl Reader {
         Reader { timeout: timeout.min(MAX_WAIT), ..self }
     }
 
-    /// The same reader, which shows this certificate to servers that listen by TLS. It names
+    /// The same reader, which shows this certificate to servers that listen over TLS. It names
     /// `krl:reader`, or a client.
     #[cfg(feature = "tls")]
     #[must_use]

@@ -3,7 +3,7 @@ use crate::model::code::Code;
 use crate::model::row::Row;
 use std::cell::Cell;
 
-/// Room for so many rows is kept for the next scan.
+/// Room for this many rows is kept for the next scan.
 const MAX_KEPT: usize = 1 << 12;
 
 thread_local! {

@@ -27,7 +27,7 @@ use std::time::{Duration, Instant};
 /// again. An older report no longer holds.
 const HINT: Duration = Duration::from_secs(2);
 
-/// So many connections in a row have to be answered by another program before a client that joins
+/// This many connections in a row have to be answered by another program before a client that joins
 /// gives up. One answer may be that of a proxy whose server is being restarted.
 const STRANGERS: u32 = 2;
 
@@ -46,7 +46,7 @@ type GivesUp = Box<dyn Fn(Refusal, Instant) -> bool + Send>;
 /// Each call is made at the moment that [`Session::at`] was given last. There are four kinds of
 /// methods:
 ///
-/// - A. What callers ask: [`Session::join`]; [`Session::state`], for all else; and
+/// - A. What callers ask: [`Session::join`]; [`Session::state`], for everything else; and
 ///   [`Session::give_up`], for what nobody waits for any more.
 /// - B. Connections: [`Session::connected`] begins one, and [`Session::disconnected`] ends it, or
 ///   reports that none was made. Before the first, a client that [`Session::has_to_begin_again`]
@@ -329,7 +329,7 @@ impl Session {
                 self.connection()?.to_send.extend(hello);
             }
             Silent::Leave => {
-                let why = "the server was asked, and is silent";
+                let why = "the server does not answer";
                 return Err(io::Error::new(io::ErrorKind::TimedOut, why));
             }
         }
@@ -490,7 +490,7 @@ impl fmt::Debug for Session {
 fn bad_message(code: Code) -> io::Error {
     io::Error::new(
         io::ErrorKind::InvalidData,
-        format!("the server sends what no server sends: {code}"),
+        format!("the server sent a message that no krl server sends: {code}"),
     )
 }
 

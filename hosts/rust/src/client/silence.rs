@@ -37,8 +37,8 @@ pub(crate) struct Silence {
 }
 
 impl Silence {
-    /// A new connection to one of so many servers, which begins with a question: each server answers
-    /// it, or ends the connection.
+    /// A new connection to one of this many servers, which begins with a question: each server
+    /// answers it, or ends the connection.
     pub fn new(now: Instant, servers: usize) -> Silence {
         let patience = if servers > 1 { AMONG_SEVERAL } else { ALONE };
         Silence { patience, last_received: now, asked: now }

@@ -45,7 +45,7 @@ use watched::Watches;
 pub(crate) const BUSY_TICK: Duration = Duration::from_millis(20);
 pub(crate) const IDLE_TICK: Duration = Duration::from_millis(250);
 
-/// A read of so many keys at most asks only for those that the client does not know.
+/// A read of this many keys at most asks only for those that the client does not know.
 const FEW: usize = 64;
 
 /// The name of a job.

@@ -9,7 +9,7 @@ use std::time::Duration;
 #[derive(Clone, Debug, PartialEq, Eq)]
 #[non_exhaustive]
 pub struct ShardStatus {
-    /// The shard's place in the map, from 0; and 0 of a client without a map.
+    /// The shard's place in the map, from 0; 0 for a client without a map.
     pub shard: usize,
     /// The epoch that the client has joined there: how many times the server had started by then.
     /// The error is `Left`, or `StoreWentBack` while the client joins again.

@@ -30,7 +30,7 @@ pub(crate) struct Table {
     pub timeout: Timeout,
 }
 
-/// The servers by the map of now, which may change while calls are made.
+/// The servers by the current map, which may change while calls are made.
 pub(crate) struct Live {
     now: RwLock<Arc<Joined>>,
     /// What the client needs to join the shards of a next map. None without a map.
@@ -72,7 +72,7 @@ impl Table {
         self.only.as_deref()
     }
 
-    /// The servers by the map of now.
+    /// /// The servers by the current map.
     pub fn now(&self) -> Arc<Joined> {
         self.live.now()
     }
@@ -130,7 +130,7 @@ impl Live {
         self.by_map(Arc::clone)
     }
 
-    /// Does something by the map of now, which does not change meanwhile.
+    /// Does something by the current map, which does not change meanwhile.
     fn by_map<T>(&self, work: impl FnOnce(&Arc<Joined>) -> T) -> T {
         work(&self.now.read().unwrap_or_else(PoisonError::into_inner))
     }
@@ -172,10 +172,10 @@ impl Live {
         waiting.into_iter().for_each(Waker::wake);
     }
 
-    /// Continues by this map, if it comes after that of now. A shard that both have as it is keeps its
-    /// client. The others are left, and the clients of the shards in their place are started: they
-    /// join by themselves, and what is asked meanwhile waits. So at no moment a call is made by two
-    /// maps.
+    /// Continues by this map, if it comes after the current one. A shard that is the same in both
+    /// keeps its client. The others are left, and the clients of the shards in their place are
+    /// started: they join by themselves, and what is asked meanwhile waits. So at no moment is a
+    /// call made by two maps.
     ///
     /// # Errors
     ///

@@ -5,7 +5,7 @@ use std::io::{self, ErrorKind};
 use std::sync::{Mutex, MutexGuard, PoisonError, TryLockError};
 use std::time::Instant;
 
-/// While so many bytes wait, what is put after them is lost. A report is shorter.
+/// While this many bytes wait, what is put after them is lost. A report is shorter.
 const MAX_PENDING: usize = 1 << 22;
 
 /// The frames that wait, and the connection.

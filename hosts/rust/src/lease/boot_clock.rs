@@ -49,14 +49,14 @@ mod tests {
     use std::time::Duration;
 
     #[test]
-    fn the_clock_goes_on() {
+    fn the_clock_advances() {
         let first = Moment::now().unwrap();
         sleep(Duration::from_millis(5));
         assert!(Moment::now().unwrap().since(first) >= 5_000_000);
     }
 
     #[test]
-    fn a_time_is_so_many_nanoseconds() {
+    fn a_time_is_this_many_nanoseconds() {
         assert_eq!(Moment::of(TimeSpec::new(2, 7)), Moment::of_nanoseconds(2_000_000_007));
         assert_eq!(Moment::of_nanoseconds(3).since(Moment::of_nanoseconds(5)), 0);
     }

@@ -71,7 +71,7 @@ impl LeaseTable {
         table
     }
 
-    /// What the store has, or is to have.
+    /// The record that is stored, or is about to be.
     pub fn record(&self) -> LeaseRecord {
         let unleased = ClientNumber::all().filter(|client| self.shown(*client).is_unleased != 0);
         LeaseRecord { longest: self.shown(0).longest, unleased: unleased.collect() }
@@ -176,7 +176,7 @@ impl LeaseTable {
         done(ffi::krl_lease_table_leave(&mut self.table, client.into())).map(drop)
     }
 
-    /// Less may have to be stored from now on. Late is soon enough.
+    /// The store may have to keep less from now on. The record need not be stored at once.
     pub fn revise(&mut self, now: Moment) -> Result<(), Code> {
         done(ffi::krl_lease_table_revise(&mut self.table, now.nanoseconds())).map(drop)
     }

@@ -74,7 +74,7 @@ impl EventLog {
     }
 
     /// A server with this room has started over this many rows. Less room than one had before may
-    /// be meant, or be a slip.
+    /// be intended, or a mistake.
     pub fn has_room(rows: usize, room: Room, greatest: Room) {
         if room < greatest {
             tell!(warn, %room, %greatest, "the server has less room than one had before it");
@@ -169,14 +169,14 @@ impl EventLog {
     /// A connection sent what is not a message, and is closed.
     pub fn bad_message(&mut self, at: &At, length: usize) {
         tell_seldom!(self.bad_messages, warn at [length,]
-            "a connection is closed: it sent what is no message");
+            "a connection is closed: it sent something that is not a message");
     }
 
     /// A message names an incarnation that is not the client's.
     pub fn stranger(&mut self, at: &At, client: u8, incarnation: u64) {
         let registered = self.clients.get(&client).map(|(incarnation, _)| *incarnation);
         tell_seldom!(self.strangers, warn at [client, incarnation, registered,]
-            "a message is passed over: it is of another incarnation than the client's");
+            "a message is ignored: it is of another incarnation than the client's");
     }
 
     /// A client is not registered: its incarnation is too far ahead of this machine's clock.
@@ -299,7 +299,7 @@ pub(crate) fn closed_by_server(at: &At, reason: &str, why: &dyn Display, passed_
 /// The system gives no connection just now.
 pub(crate) fn not_accepted(limit: &mut RateLimit, error: &dyn Display) {
     if let Some(passed_over) = limit.admits(Instant::now()) {
-        tell!(warn, %error, passed_over, "the system gives no connection");
+        tell!(warn, %error, passed_over, "the system accepts no connection");
     }
 }
 

@@ -14,7 +14,7 @@ pub enum Mutation {
     Put(Row),
     /// That value for the key, whether or not it has a row: the outcome is `Applied` or `Full`.
     Set(Row),
-    /// The row of that key goes: the outcome is `Applied` or `Absent`.
+    /// The row of that key is deleted: the outcome is `Applied` or `Absent`.
     Delete(u64),
 }
 

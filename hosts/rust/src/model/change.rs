@@ -12,7 +12,7 @@ pub enum Write {
     Insert(Row),
     /// Another value for the row of that key.
     Put(Row),
-    /// The row of that key goes.
+    /// The row of that key is deleted.
     Delete(u64),
 }
 

@@ -1,4 +1,4 @@
-//! What a call of the library answers, by name.
+//! What a call of the library returns, by name.
 use std::fmt;
 
 macro_rules! codes {
@@ -28,7 +28,7 @@ macro_rules! codes {
                 match self {
                     $(Code::$name => f.write_str($text),)*
                     Code::Other(number) => {
-                        write!(f, "the library answered by the unknown code {number}")
+                        write!(f, "the library returned the unknown code {number}")
                     }
                 }
             }
@@ -38,14 +38,14 @@ macro_rules! codes {
 
 codes! {
     Done = 0, "it is done";
-    ReplyLost = 1, "it is done, but memory for its answer was refused";
+    ReplyLost = 1, "it is done, but there was no memory for its answer";
     OutOfMemory = 2, "memory was refused";
     Closed = 3, "the handle is closed, or the server has not begun";
     OpenAlready = 4, "the handle is open already, or the server has begun";
     NoClient = 5, "the handle keeps a server";
     NoServer = 6, "the handle keeps a client";
     Gone = 7, "the client has left";
-    BadMessage = 8, "the bytes are no message";
+    BadMessage = 8, "the bytes are not a message";
     TooShort = 9, "there is too little room";
     Miss = 10, "the client does not know the whole range";
     Pending = 11, "a write to a key of the range is not answered yet";
@@ -55,9 +55,9 @@ codes! {
     BadRecord = 15, "a record that none can have, or a second one of its client";
     BadValue = 16, "a value has more than 32 bytes";
     BadKey = 17, "a key is 2^63 - 1 or more";
-    Twice = 18, "a key stands twice among the rows";
+    Twice = 18, "a key occurs twice among the rows";
     Full = 19, "there are more rows than the server has room for";
-    BadMode = 20, "a mode that is none";
+    BadMode = 20, "it is not a mode";
     BadPoint = 21, "a point above 2^63 - 1, or a written key of 2^63 - 1 or more";
     BadSpan = 22, "a range does not begin below its end, or ends above 2^63";
     NotJoined = 23, "the client has learned no epoch yet";
@@ -67,7 +67,7 @@ codes! {
     Writing = 27, "a write is not answered yet";
     TooManyPins = 28, "the client has eight pins";
     BadIncarnation = 29, "a client's incarnation is 0, or not greater than the registered one";
-    BadShards = 30, "bounds that make no shards";
+    BadShards = 30, "the bounds are not those of shards";
     BadRoom = 31, "room for no row, or for more than 1,048,576";
     Unkept = 32, "a note that has to be kept is not confirmed";
     NotReported = 33, "more notes were confirmed than were reported, or a commit that has not begun";

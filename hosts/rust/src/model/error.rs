@@ -16,8 +16,8 @@ use std::path::{Path, PathBuf};
 pub struct Error {
     /// Why.
     pub kind: ErrorKind,
-    /// The shard whose client refused, from 0. `None` of a client without a map; and of one with a
-    /// map if no shard refused: the range or the key is not valid, or no moment came at which all
+    /// The shard whose client refused, from 0. `None` for a client without a map; and for one with
+    /// a map if no shard refused: the range or the key is not valid, or no moment came at which all
     /// shards were known together.
     pub shard: Option<u8>,
 }
@@ -32,13 +32,14 @@ pub enum ErrorKind {
     /// sent ends with `NotSent`.
     TimedOut,
     /// The same, and the server has just reported why it does not serve the client. If it serves
-    /// another store than the one that the client has seen, a call that waits ends so at once: the
-    /// client has dropped its cache and its pins, and joins again when it finds its own store.
+    /// another store than the one that the client has seen, a call that waits ends with this at
+    /// once: the client has dropped its cache and its pins, and joins again when it finds its own
+    /// store.
     Unserved(Refusal),
     /// The write was not sent, for this reason. It was not made and will not be, and changes
     /// nothing.
     NotSent(Unsent),
-    /// This side of the connection has no right to the client: the two sides don't take each
+    /// This side of the connection has no right to the client: the two sides do not accept each
     /// other's certificates, or the certificate or the user is not that of the client's number. If
     /// the client has one server, this comes as soon as two connections in a row have ended for it,
     /// and otherwise at the timeout. A write was not sent, and changes nothing: one that was sent
@@ -62,8 +63,8 @@ pub enum ErrorKind {
     PinIsVoid,
     /// The client has left: its calls do nothing any more.
     Left,
-    /// The client's own thread has ended by a panic: it answers nothing more but from its cache. A
-    /// write was sent, and may have changed the table: one that was not sent ends with `NotSent`.
+    /// The client's own thread has panicked: the client answers only from its cache. A write was
+    /// sent, and may have changed the table: one that was not sent ends with `NotSent`.
     Stopped,
     /// The range begins above its end, ends above 2^63, has keys of a shard that is not joined, or
     /// is empty and may not be.
@@ -91,7 +92,7 @@ pub enum Unsent {
     Unserved(Refusal),
     /// The server's store went back before the write left: see [`ErrorKind::StoreWentBack`].
     StoreWentBack,
-    /// The client's own thread has ended by a panic: see [`ErrorKind::Stopped`].
+    /// The client's own thread has panicked: see [`ErrorKind::Stopped`].
     Stopped,
 }
 
@@ -101,10 +102,10 @@ pub enum Unsent {
 pub struct JoinError {
     /// Why.
     pub kind: JoinErrorKind,
-    /// The number by which the client did not join, of several the one that the kind is about.
+    /// The number with which the client did not join; of several, the one that the kind is about.
     /// `None` if there is no number.
     pub number: Option<u8>,
-    /// The first shard whose client did not join, from 0. `None` of a client without a map, and if
+    /// The first shard whose client did not join, from 0. `None` for a client without a map, and if
     /// no shard was asked.
     pub shard: Option<u8>,
 }
@@ -113,7 +114,7 @@ pub struct JoinError {
 #[derive(Debug)]
 #[non_exhaustive]
 pub enum JoinErrorKind {
-    /// The lock file was not taken.
+    /// The lock file could not be taken.
     LockFile {
         /// The file.
         path: PathBuf,
@@ -126,7 +127,7 @@ pub enum JoinErrorKind {
     NoLockFolder(io::Error),
     /// A number above 63.
     BadNumber,
-    /// What a builder was given has none of this: a number, or keys of a shard.
+    /// What the builder was given lacks this: a number, or keys of a shard.
     Incomplete(&'static str),
     /// The server did not answer within the client's timeout.
     NoAnswer {
@@ -156,23 +157,23 @@ pub enum JoinErrorKind {
     /// The server has reported why it does not serve the client, and within the client's timeout it
     /// did not answer.
     Unserved(Refusal),
-    /// This side of the connection has no right to the client, for this reason: the two sides don't
-    /// take each other's certificates, or the certificate or the user is not that of the client's
-    /// number. If the client has one server, it comes as soon as two connections in a row have
-    /// ended for it.
+    /// This side of the connection has no right to the client, for this reason: the two sides do
+    /// not accept each other's certificates, or the certificate or the user is not that of the
+    /// client's number. If the client has one server, it comes as soon as two connections in a row
+    /// have ended for it.
     TurnedAway(String),
     /// The server serves another shard than the client takes it for, or by another map. If the
     /// client has one server, it comes as soon as two connections in a row have ended for it.
     OtherShard(OtherShard),
-    /// The system has no thread for the client's connection, or no file for it to wait by.
+    /// The system gives no thread for the client's connection, or no file by which it waits.
     NoThread(io::Error),
     /// The client refused to start.
     Refused(ErrorKind),
 }
 
 impl Error {
-    /// Whether the same call may be made again as it is, and may do then what it should: a server
-    /// that is down comes back, and a client that has dropped its cache joins again.
+    /// Whether the same call may be made again as it is, and may then succeed: a server that is
+    /// down comes back, and a client that has dropped its cache joins again.
     ///
     /// A write whose outcome is unknown is another write if it is made again: after an error for
     /// which [`Error::is_unknown_outcome`] is true, a read of the key comes first.
@@ -181,9 +182,9 @@ impl Error {
         self.kind.is_retryable()
     }
 
-    /// Whether a write that ended so may have been applied, or may still be. A read of the key by
-    /// the same client waits until that is decided, and shows which; other clients may read the key
-    /// before. After any other error the write changes nothing.
+    /// Whether a write that ended with this error may have been applied, or may still be. A read of
+    /// the key by the same client waits until that is decided, and shows which; other clients may
+    /// read the key before. After any other error the write changes nothing.
     #[must_use]
     pub fn is_unknown_outcome(&self) -> bool {
         self.kind.is_unknown_outcome()

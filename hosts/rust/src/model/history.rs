@@ -20,7 +20,7 @@ pub(crate) struct Seen {
     pub first_start: Option<u128>,
 }
 
-/// What a store is to a client that has seen so much of one.
+/// What a store is to a client that has seen this much of one.
 #[derive(Clone, Copy, Debug, PartialEq, Eq)]
 pub(crate) enum Comparison {
     /// It has all of that.
@@ -63,8 +63,8 @@ impl History {
         self.mark().map(|mark| Seen { mark, first_start: self.first_start() })
     }
 
-    /// What the store is to a client that has seen so much of one. Whether a server serves the
-    /// client, refuses it, or ends rests on this only.
+    /// Compares the store with what a client has seen of one. Whether a server serves the client,
+    /// refuses it, or ends rests on this only.
     pub(crate) fn compare(&self, seen: Seen) -> Comparison {
         if self.has(seen.mark) {
             return Comparison::HasAll;

@@ -3,7 +3,7 @@ use crate::model::shard_bounds::{BadShardBounds, ShardBounds};
 use std::fmt;
 use std::str::FromStr;
 
-/// Which shard a store is of, as the store keeps it.
+/// Which shard a store belongs to, as the store keeps it.
 ///
 /// As text it is the shard's bounds, followed by ` sealed` if it is: `0..500000@3 sealed`.
 #[derive(Clone, Copy, Debug, PartialEq, Eq)]

@@ -4,7 +4,7 @@ use std::fmt;
 use std::str::FromStr;
 
 /// How many slots one grant of a server takes at most, from 1 to 128. A client that reads many rows
-/// for the first time asks once per that many slots.
+/// for the first time asks for that many slots at a time.
 ///
 /// As text it is that number.
 #[derive(Clone, Copy, Debug, PartialEq, Eq, PartialOrd, Ord)]

@@ -8,14 +8,14 @@ use std::fmt;
 /// took the lock that it needs; in version 3 every read took a lock.
 pub(crate) const STREAM_VERSION: u8 = 4;
 
-/// Why a server does not serve a client. It is a hint for people: the library's rules don't rest on
-/// it, and a server of another kind may give none. Only [`Refusal::OtherStore`] is more: a client
-/// that receives it drops its cache.
+/// Why a server does not serve a client. It is a hint for people: the library's rules do not rest
+/// on it, and a server of another kind may give none. Only [`Refusal::OtherStore`] is more: a
+/// client that receives it drops its cache.
 #[derive(Clone, Copy, Debug, PartialEq, Eq)]
 #[non_exhaustive]
 pub enum Refusal {
-    /// The server and the client are of two versions of the stream. No server of an earlier version
-    /// serves a client of this one, nor the other way round.
+    /// The server and the client have different versions of the stream. No server of an earlier
+    /// version serves a client of this one, nor the other way round.
     Version {
         /// The version of the server.
         read: u8,
@@ -118,10 +118,10 @@ impl fmt::Display for Refusal {
                 "another process is client {client} of this server: take another number, or end \
                  that process (the server knows incarnation {registered} of client {client}, which \
                  is greater; if there is no such process, this client was evicted, or its lock \
-                 file was lost under a clock that is behind)"
+                 file was lost while its clock was slow)"
             ),
             Refusal::Full { connections } => {
-                write!(f, "the server has all its connections, which are {connections}")
+                write!(f, "the server has {connections} connections, and takes no more")
             }
             Refusal::Denied => f.write_str(
                 "the server does not let this side of the connection speak for the client: its \
@@ -131,7 +131,7 @@ impl fmt::Display for Refusal {
                 write!(f, "the server serves {served}, and the client takes it for another shard")
             }
             Refusal::OtherShard(None) => {
-                f.write_str("the server serves no shard, and the client takes it for one's")
+                f.write_str("the server serves no shard, and the client takes it for a shard's")
             }
             Refusal::FarAhead { client, latest } => write!(
                 f,
@@ -177,7 +177,7 @@ mod tests {
             assert!(sentence.contains("take another number, or end that process"), "{sentence}");
         }
         let full = Refusal::Full { connections: 256 }.to_string();
-        assert_eq!(full, "the server has all its connections, which are 256");
+        assert_eq!(full, "the server has 256 connections, and takes no more");
         let version = Refusal::Version { read: 1 }.to_string();
         assert!(version.contains("speaks version 1 of the protocol, and this client version 4"));
     }

@@ -20,7 +20,7 @@ pub struct ShardBounds {
 }
 
 /// Bounds of no shard: the first key is not below the end, the end is above 2^63, or the version is
-/// no number from 1 on.
+/// not a number from 1 on.
 #[derive(Clone, Copy, Debug, PartialEq, Eq)]
 pub struct BadShardBounds;
 

@@ -21,7 +21,7 @@ pub struct Snapshot {
     /// The greatest room that a server had over it. A store that no server has served keeps none,
     /// nor does one of a version that did not keep it.
     pub room: Option<Room>,
-    /// Which shard the store is of, if it was ever one of a shard.
+    /// The shard that the store belongs to, if it ever belonged to one.
     pub shard: Option<KeptShard>,
     /// The bits of the first start of a server over the store, if there was one and the store keeps
     /// its history. A copy has the same: they distinguish an older copy from another store.

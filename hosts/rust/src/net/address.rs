@@ -16,8 +16,8 @@ const LOCALHOST: &str = "localhost";
 /// `plain:10.0.0.1:7400`, or, on this machine, `127.0.0.1:7400` or `localhost:7400`, which is plain
 /// TCP.
 ///
-/// **By plain TCP whoever can connect can speak for any client.** So an address beyond the loopback
-/// is plain TCP only if that is explicit.
+/// **Over plain TCP whoever can connect can speak for any client.** So an address beyond the
+/// loopback is plain TCP only if that is explicit.
 #[derive(Clone, Debug, PartialEq, Eq)]
 #[non_exhaustive]
 pub enum Address {
@@ -136,7 +136,7 @@ impl fmt::Display for BadAddress {
             }
             BadAddress::NoScheme => {
                 "an address of another machine begins with tls: or with plain:, such \
-                 as tls:10.0.0.1:7400; by plain: anybody who can connect can speak for any client"
+                 as tls:10.0.0.1:7400; over plain: anybody who can connect can speak for any client"
             }
         })
     }

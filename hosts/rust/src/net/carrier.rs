@@ -10,10 +10,10 @@ use std::io::{self, ErrorKind, Read, Write};
 use std::sync::{Arc, Mutex, MutexGuard, PoisonError};
 use std::time::{Duration, Instant};
 
-/// How long a hand-shake may take.
+/// How long a handshake may take.
 const HANDSHAKE: Duration = Duration::from_secs(3);
 
-/// How much is read at once of a hand-shake.
+/// How much is read at once of a handshake.
 const GULP: usize = 1 << 14;
 
 /// One end of a connection. Two threads may have one each: one reads, and one writes. Neither waits
@@ -47,7 +47,7 @@ impl Carrier {
         Carrier::over(stream, Some(session))
     }
 
-    /// That of a stream that is connected, and on which the hand-shake is done.
+    /// That of a stream that is connected, and on which the handshake is done.
     pub fn over(stream: Stream, session: Option<TlsSession>) -> io::Result<Carrier> {
         stream.never_wait()?;
         Ok(Carrier { stream, session: session.map(|session| Arc::new(Mutex::new(session))) })
@@ -99,7 +99,7 @@ fn shake(stream: &mut Stream, session: &mut TlsSession, end: Instant) -> io::Res
             return Ok(());
         }
         if Instant::now() >= end {
-            return Err(io::Error::new(ErrorKind::TimedOut, "the hand-shake took too long"));
+            return Err(io::Error::new(ErrorKind::TimedOut, "the handshake took too long"));
         }
         match stream.read(&mut came)? {
             0 => return Err(ErrorKind::UnexpectedEof.into()),

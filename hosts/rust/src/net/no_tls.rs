@@ -1,4 +1,4 @@
-//! Without the feature `tls` no side of a connection can be made by TLS.
+//! Without the feature `tls` no side of a connection can be made over TLS.
 use crate::access::identity::Identity;
 use crate::wire::frames::Frames;
 use std::io::{self, Read};

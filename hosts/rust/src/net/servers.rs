@@ -10,8 +10,8 @@ use std::str::FromStr;
 /// text with commas between them, such as `tls:10.0.0.1:7400,tls:10.0.0.2:7400`.
 ///
 /// A client goes to the next one if it can't connect, if its connection ends, if the server is
-/// silent for a second though it was asked, and if a server is of an older epoch than one of which
-/// the client has learned. With one address it connects again to that, and waits five seconds for a
+/// silent for a second after a question, and if a server is of an older epoch than one of which the
+/// client has learned. With one address it connects again to that, and waits five seconds for a
 /// server that is silent.
 #[derive(Clone, Debug, PartialEq, Eq)]
 pub struct Servers {
@@ -22,7 +22,7 @@ pub struct Servers {
 }
 
 impl Servers {
-    /// The same servers, to which a client shows this certificate if they listen by TLS.
+    /// The same servers, to which a client shows this certificate if they listen over TLS.
     #[cfg(feature = "tls")]
     #[must_use]
     pub fn with_tls(self, config: TlsConfig) -> Servers {
@@ -36,7 +36,7 @@ impl Servers {
         Servers { shard: Some(shard), ..self }
     }
 
-    /// So many servers, and at least one, whose addresses only the host of a client knows.
+    /// This many servers, and at least one, whose addresses only the host of a client knows.
     #[cfg(feature = "sans-io")]
     pub(crate) fn unnamed(count: usize) -> Servers {
         let address = |place: usize| Address::Unix(format!("server {place}").into());
@@ -49,7 +49,7 @@ impl Servers {
         self.shard
     }
 
-    /// What a client shows to them, and whom it believes.
+    /// What a client shows to them, and whom it trusts.
     pub(crate) fn tls(&self) -> Option<&TlsConfig> {
         self.tls.as_ref()
     }

@@ -217,7 +217,7 @@ fn connect_to_path(path: &Path, wait: Duration) -> io::Result<UnixStream> {
     match socket.connect(&SockAddr::unix(path)?) {
         Ok(()) => Ok(socket.into()),
         Err(error) if error.kind() == ErrorKind::WouldBlock => {
-            Err(io::Error::new(ErrorKind::TimedOut, "the server takes no connection"))
+            Err(io::Error::new(ErrorKind::TimedOut, "the server accepts no connection"))
         }
         Err(error) => Err(error),
     }
@@ -418,7 +418,7 @@ mod tests {
     }
 
     #[test]
-    fn a_unix_socket_is_its_users_alone_from_the_first_moment_on() {
+    fn a_unix_socket_is_only_its_users_from_the_first_moment_on() {
         let path = std::env::temp_dir().join(format!("krl-stream-mode-{}", std::process::id()));
         let listener = listen_for_own(&path).unwrap();
         let mode = path.metadata().unwrap().permissions().mode() & 0o777;

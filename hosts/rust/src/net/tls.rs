@@ -21,7 +21,7 @@ use std::fmt;
 use std::io::{self, ErrorKind, Read};
 use std::sync::{Arc, OnceLock};
 
-/// The most bytes that come in a hand-shake: a chain of certificates has a few thousand.
+/// The most bytes that come in a handshake: a chain of certificates has a few thousand.
 const LONGEST_HANDSHAKE: usize = 1 << 16;
 
 /// How much is opened at once: a record.
@@ -54,11 +54,11 @@ pub(crate) enum Side {
 pub struct TlsSession {
     stream: SslStream<Pipe>,
     check: PeerCheck,
-    /// None until the hand-shake is done.
+    /// None until the handshake is done.
     peer: Option<Identity>,
-    /// How many bytes came in the hand-shake.
+    /// How many bytes came in the handshake.
     shaken: usize,
-    /// What is to leave as soon as the hand-shake is done and it is sealed.
+    /// What is to leave as soon as the handshake is done and it is sealed.
     unsealed: Vec<u8>,
     /// Room for the content of a record.
     room: Box<[u8]>,
@@ -66,7 +66,7 @@ pub struct TlsSession {
     is_ended: bool,
 }
 
-/// Judges the certificate of the other end of one connection, within the hand-shake.
+/// Judges the certificate of the other end of one connection, within the handshake.
 ///
 /// A program that serves a port of its own, or asks one, judges its peers by this as a server judges
 /// its clients: by the names in their certificates.
@@ -98,7 +98,7 @@ impl RefusedSubject {
 
 impl PeerCheck {
     /// A check for a connection that this side has made, to a server, and the `Ssl` within whose
-    /// hand-shake it judges.
+    /// handshake it judges.
     ///
     /// # Errors
     ///
@@ -136,7 +136,7 @@ impl PeerCheck {
         Ok((check, ssl))
     }
 
-    /// Who is at the other end by its certificate, once the hand-shake is done.
+    /// Who is at the other end by its certificate, once the handshake is done.
     ///
     /// # Errors
     ///
@@ -159,14 +159,15 @@ impl PeerCheck {
                 not_taken(&format!("{NO_NAME}{subject}"))
             }
             (_, Some(alert)) => {
-                not_taken(&format!("the other end does not take this certificate: {alert}"))
+                not_taken(&format!("the other end does not accept this certificate: {alert}"))
             }
             (X509VerifyResult::OK, None) => {
                 io::Error::new(ErrorKind::InvalidData, format!("TLS failed: {error}"))
             }
             (refused, None) => {
                 let why = refused.error_string();
-                not_taken(&format!("the certificate of the other end{subject} is not taken: {why}"))
+                let certificate = format!("the certificate of the other end{subject}");
+                not_taken(&format!("{certificate} is not accepted: {why}"))
             }
         }
     }
@@ -193,7 +194,7 @@ impl TlsSession {
         TlsSession::new(config, Side::Accepts)
     }
 
-    /// A connection with this side. The hand-shake begins with the first bytes that leave or come.
+    /// A connection with this side. The handshake begins with the first bytes that leave or come.
     pub(crate) fn new(config: &TlsConfig, side: Side) -> io::Result<TlsSession> {
         let (check, ssl) = PeerCheck::new(config, side)?;
         let mut session = TlsSession {
@@ -209,7 +210,7 @@ impl TlsSession {
         Ok(session)
     }
 
-    /// Who is at the other end: none until the hand-shake is done. A server may send nothing.
+    /// Who is at the other end: none until the handshake is done. A server may send nothing.
     #[must_use]
     pub fn peer(&self) -> Option<Identity> {
         self.peer
@@ -248,7 +249,7 @@ impl TlsSession {
         if self.peer.is_some() { self.open_records() } else { Ok(Vec::new()) }
     }
 
-    /// Takes what came from the socket, and continues with the hand-shake if it is not done.
+    /// Takes what came from the socket, and continues with the handshake if it is not done.
     pub(crate) fn shake(&mut self, sealed: &[u8]) -> io::Result<()> {
         self.stream.get_mut().feed(sealed);
         if self.peer.is_some() {
@@ -256,7 +257,7 @@ impl TlsSession {
         }
         self.shaken += sealed.len();
         if self.shaken > LONGEST_HANDSHAKE {
-            return Err(io::Error::new(ErrorKind::InvalidData, "the hand-shake does not end"));
+            return Err(io::Error::new(ErrorKind::InvalidData, "the handshake does not end"));
         }
         self.go_on()
     }
@@ -266,7 +267,7 @@ impl TlsSession {
         self.unsealed.extend_from_slice(bytes);
     }
 
-    /// Seals what is to leave, if the hand-shake is done, and takes what is to be written to the
+    /// Seals what is to leave, if the handshake is done, and takes what is to be written to the
     /// socket.
     ///
     /// # Errors
@@ -289,7 +290,7 @@ impl TlsSession {
         Ok(())
     }
 
-    /// Continues with the hand-shake as far as it comes without more from the other side.
+    /// Continues with the handshake as far as it comes without more from the other side.
     fn go_on(&mut self) -> io::Result<()> {
         match self.stream.do_handshake() {
             Ok(()) => self.peer = Some(self.check.peer(self.stream.ssl())?),

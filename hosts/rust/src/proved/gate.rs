@@ -100,7 +100,7 @@ impl<T> Reader<T> {
         read(&self.enter())
     }
 
-    /// Goes inside, and stays there as long as the answer lives, which has to be short too. It
+    /// Goes inside, and stays there as long as the guard lives, which has to be short too. It
     /// waits as `read` does.
     ///
     /// A thread may be inside several gates, if all threads enter these in one order: one that

@@ -56,7 +56,7 @@ impl Handle {
     pub fn append_taken(&mut self, old: usize, frames: &mut Vec<u8>) -> Result<usize, Code> {
         loop {
             let room = &mut frames[old..];
-            // SAFETY: as for any handle, and there is so much room to be written to.
+            // SAFETY: as for any handle, and there is this much room to be written to.
             let reply = unsafe { ffi::krl_take(self.raw(), room.as_mut_ptr(), room.len()) };
             let length = usize::try_from(reply.detail).map_err(|_| Code::OutOfMemory)?;
             match code(reply) {

@@ -83,7 +83,7 @@ impl ServerHandle {
     pub fn missing(&mut self) -> Result<Vec<u8>, Code> {
         let mut clients: PerClient<u64> = [0; ClientNumber::COUNT as usize];
         let room = clients.len();
-        // SAFETY: as for any handle, and there is so much room to be written to.
+        // SAFETY: as for any handle, and there is this much room to be written to.
         let reply =
             unsafe { ffi::krl_server_missing(self.handle.raw(), clients.as_mut_ptr(), room) };
         listed(reply, &clients)
@@ -120,7 +120,7 @@ impl ServerHandle {
     fn waited_for(&mut self, client: u8) -> Result<Vec<u8>, Code> {
         let mut clients: PerClient<u64> = [0; ClientNumber::COUNT as usize];
         let (at, room) = (clients.as_mut_ptr(), clients.len());
-        // SAFETY: as for any handle, and there is so much room to be written to.
+        // SAFETY: as for any handle, and there is this much room to be written to.
         let reply =
             unsafe { ffi::krl_server_waited_for(self.handle.raw(), client.into(), at, room) };
         listed(reply, &clients)
@@ -150,7 +150,7 @@ impl ServerHandle {
     /// [`Code::Unkept`] if they rest on a change that is not confirmed.
     pub fn rows(&mut self, keys: Range<u64>, rows: &mut Vec<Row>) -> Result<u64, Code> {
         let (at, room) = (rows.as_mut_ptr(), rows.len());
-        // SAFETY: as for any handle, and there is so much room to be written to.
+        // SAFETY: as for any handle, and there is this much room to be written to.
         let page =
             unsafe { ffi::krl_server_rows(self.handle.raw(), keys.start, keys.end, at, room) };
         let count = usize::try_from(done(page.reply)?).map_err(|_| Code::OutOfMemory)?;

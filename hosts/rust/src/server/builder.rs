@@ -56,8 +56,8 @@ impl<S: Store + 'static> ServerBuilder<S> {
         ServerBuilder { listener, store, options }
     }
 
-    /// Whom the server lets in: by default everybody who can connect, by plain TCP on the loopback
-    /// only, and its own user over a Unix socket.
+    /// Whom the server lets in: by default everybody who can connect, over plain TCP on the
+    /// loopback only, and its own user over a Unix socket.
     pub fn access(mut self, access: Access) -> ServerBuilder<S> {
         self.options.access = access;
         self
@@ -80,9 +80,9 @@ impl<S: Store + 'static> ServerBuilder<S> {
     }
 
     /// The shard that the server serves, by a map of this version: it serves clients that take it
-    /// for this, and no others. The store keeps it, and is of no other one until it is split or merged.
-    /// By default the server serves the shard that its store keeps, and without one all keys, and no
-    /// client of a shard.
+    /// for this one, and no others. The store keeps the shard, which only a split, a merge or a
+    /// move changes. By default the server serves the shard that its store keeps, and without one
+    /// all keys, and no client of a shard.
     pub fn shard(mut self, shard: ShardBounds) -> ServerBuilder<S> {
         self.options.shard = Some(shard);
         self
@@ -100,8 +100,8 @@ impl<S: Store + 'static> ServerBuilder<S> {
     }
 
     /// How many slots one grant takes at most: 128 by default. A client that reads many rows for
-    /// the first time asks once per that many slots. A grant of more slots keeps the server longer
-    /// from the requests of others.
+    /// the first time asks for that many slots at a time. A grant of more slots keeps the server
+    /// longer from the requests of others.
     ///
     /// Each start may give another reach: the store keeps none.
     pub fn reach(mut self, reach: Reach) -> ServerBuilder<S> {

@@ -17,7 +17,7 @@ pub(crate) enum CloseReason {
     IdentityCrowded,
     /// The client's long report comes on another connection.
     ReportsElsewhere,
-    /// The hand-shake of TLS failed.
+    /// The handshake of TLS failed.
     HandshakeFailed,
     /// It began a frame that is longer than it may be.
     FrameTooLong,
@@ -93,7 +93,7 @@ impl CloseReason {
             CloseReason::IdentityCrowded => {
                 Some("it was the oldest of too many of one certificate or user")
             }
-            CloseReason::HandshakeFailed => Some("the hand-shake of TLS failed"),
+            CloseReason::HandshakeFailed => Some("the handshake of TLS failed"),
             CloseReason::FrameTooLong => Some("it began a frame that is longer than it may be"),
             CloseReason::Full => Some("no more may be open"),
             _ => None,

@@ -54,7 +54,7 @@ pub(crate) enum Looked {
     Ended,
     /// It begins a frame that is longer than any message.
     TooLong,
-    /// The hand-shake of TLS failed, for this reason.
+    /// The handshake of TLS failed, for this reason.
     NotShaken(String),
 }
 

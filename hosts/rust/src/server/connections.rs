@@ -208,7 +208,7 @@ impl Connections {
             Looked::Frame => self.frame(number),
             Looked::Long(head) => Found::Long(number, head),
             Looked::NoFrame => {
-                // A hand-shake answers what came.
+                // A handshake answers what came.
                 self.to_write.push_back(number);
                 self.line_up(number);
                 Found::Nothing

@@ -169,8 +169,8 @@ impl EventLoop {
         self.until.is_some()
     }
 
-    /// Whether to make another turn after one that began then and judged so much. What came before
-    /// the stop is seen by the turn after it.
+    /// Whether to make another turn after one that began then and judged this much. What came
+    /// before the stop is seen by the turn after it.
     pub fn goes_on(&self, was_to_end: bool, began: Now, judged: usize) -> bool {
         let is_over = |until| was_to_end && (judged == 0 || began.monotonic >= until);
         !self.until.is_some_and(is_over)

@@ -208,7 +208,7 @@ mod tests {
     }
 
     #[test]
-    fn a_search_that_is_late_goes_on_with_its_next_page() {
+    fn a_search_that_is_late_continues_with_its_next_page() {
         let whole = search(0..1000, 100).page(next_held, || false);
         let (mut search, mut held) = (search(0..1000, 100), Vec::new());
         for _ in 0..100 {
@@ -251,7 +251,7 @@ mod tests {
     }
 
     #[test]
-    fn a_run_goes_on_in_the_next_page() {
+    fn a_run_continues_in_the_next_page() {
         let (mut search, mut looks) = (Search::of_runs(0..100, 3), 0);
         let first = search.page(in_two_modes, || {
             looks += 1;

@@ -17,7 +17,7 @@ use std::ops::{Range, RangeBounds};
 pub struct Shard {
     /// The first key.
     pub first: u64,
-    /// Where its server is, or where it may be; with what is shown there, if it listens by TLS.
+    /// Where its server is, or where it may be; with what is shown there, if it listens over TLS.
     pub servers: Servers,
     /// The version of the map in which the shard became what it is, if that is an earlier one than
     /// the map's. Its server and its clients know it by this version, so they need not learn of a
@@ -36,7 +36,7 @@ impl Shard {
 /// All keys, cut into shards, each with a server and a store of its own.
 ///
 /// **All clients have to have the same map**: a client with another one would write keys at the
-/// wrong server, where the others don't see them. A map with a version is fenced: each server is
+/// wrong server, where the others do not see them. A map with a version is fenced: each server is
 /// started as that of its shard ([`ServerBuilder::shard`]), and serves only clients of the same
 /// map. A map without a version is not: nothing notices two of them.
 ///
@@ -91,7 +91,7 @@ impl ShardMap {
         ShardMap { version: Some(version), ..self }
     }
 
-    /// The same map, whose servers are shown this if they listen by TLS.
+    /// The same map, whose servers are shown this if they listen over TLS.
     #[cfg(feature = "tls")]
     pub(crate) fn with_tls(self, config: &TlsConfig) -> ShardMap {
         let shown =

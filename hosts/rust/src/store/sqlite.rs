@@ -435,7 +435,7 @@ fn kept_room(connection: &Connection) -> Result<Option<Room>, StoreError> {
     let kept = connection.query_row("SELECT most_rows FROM room", [], |row| row.get::<_, i64>(0));
     let Some(rows) = kept.optional()? else { return Ok(None) };
     let room = usize::try_from(rows).ok().and_then(|rows| Room::of(rows).ok());
-    room.map(Some).ok_or_else(|| StoreError::failed("the room in the store is one of no server"))
+    room.map(Some).ok_or_else(|| StoreError::failed("what the store has as its room is not a room"))
 }
 
 /// What the file has of leases.
@@ -451,7 +451,7 @@ fn lease_record(connection: &Connection) -> Result<LeaseRecord, StoreError> {
     Ok(LeaseRecord { longest: positive(longest)?, unleased })
 }
 
-/// Gives a file that has the tables of a store and no more all of the snapshot.
+/// Gives a file that has only the tables of a store all of the snapshot.
 pub(crate) fn save(connection: &Connection, snapshot: &Snapshot) -> Result<(), StoreError> {
     let transaction = WriteTransaction::begin(connection)?;
     Merged::from(snapshot).write(&transaction)?;

@@ -31,7 +31,7 @@ pub fn served_by(place: &StorePlace) -> Option<String> {
 }
 
 impl Stores<'_> {
-    /// Refuses stores that are not of the shards that change, before anybody hears of the change:
+    /// Refuses stores that are not of the shards that change, before anybody learns of the change:
     /// they would lose rows.
     pub fn refuse_others(&self) -> Done {
         for (place, old) in self.old.iter().enumerate() {

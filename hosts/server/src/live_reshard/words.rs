@@ -27,7 +27,7 @@ pub enum LiveChange {
         #[command(flatten)]
         live: LiveOptions,
     },
-    /// Make one shard of two neighbors. It has the place of the lower one
+    /// Make one shard of two neighbors, at the place of the lower one
     Merge {
         /// The store of the shard with the lower keys
         lower: StorePlace,
@@ -61,15 +61,15 @@ pub enum LiveChange {
 /// By what servers and clients learn of a change.
 #[derive(Debug, Args)]
 pub struct LiveOptions {
-    /// The map that clients follow. It is replaced; the map before stays next to it, with .before at
-    /// the end of its name
+    /// The map that clients follow. It is replaced; the earlier map stays next to it, with .before
+    /// at the end of its name
     #[arg(long, value_name = "FILE")]
     pub map: PathBuf,
-    /// A command that gives the map to other machines: it is run after each change of the file,
-    /// whose name it finds in `KRL_MAP`
+    /// A command that copies the map to other machines. It is run after each change of the file,
+    /// whose name is in KRL_MAP
     #[arg(long, value_name = "COMMAND")]
     pub publish: Option<String>,
-    /// The status port of a server whose shard changes. Of a merge there are two
+    /// The status port of a server whose shard changes. A merge has two
     #[arg(long, value_name = "ADDRESS", required = true)]
     pub status: Vec<String>,
     #[command(flatten)]
@@ -83,7 +83,7 @@ pub struct LiveOptions {
     /// A command that starts the server of the new store
     #[arg(long, value_name = "COMMAND")]
     pub start_new: String,
-    /// How many seconds clients may take to leave. One that is dead leaves when its lease ends
+    /// How many seconds clients may take to leave. A dead one counts as left when its lease ends
     #[arg(long, value_name = "SECONDS", default_value_t = 60)]
     pub wait: u64,
 }

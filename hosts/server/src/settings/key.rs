@@ -107,7 +107,7 @@ settings! {
     );
     TLS_CERTIFICATE = file(
         "tls-certificate",
-        "The certificate that is shown by TLS, as PEM, with those between it and the authority's",
+        "The certificate to show over TLS, as PEM, with those between it and the authority's",
     );
     TLS_KEY = file("tls-key", "The key of that certificate, as PEM");
     TABLE = Key {
@@ -125,8 +125,8 @@ settings! {
         kind: Kind::Text,
         default: "",
         expected: "users and what each may send, such as 1001=3,4 or 1001=3 1002=operator",
-        help: "Other users of this machine who may connect over a Unix socket, by number, and for \
-               which clients each may speak: 1001=3,4 or '1001=3 1002=operator'",
+        help: "Other users of this machine that may connect over a Unix socket, by number, and the \
+               clients for which each may speak: 1001=3,4 or '1001=3 1002=operator'",
     };
     PLAIN = Key {
         name: "plain-beyond-loopback",
@@ -134,8 +134,8 @@ settings! {
         kind: Kind::YesNo,
         default: "no",
         expected: "yes or no",
-        help: "Listen by plain TCP even if other machines may connect: each may speak for any \
-               client",
+        help: "Listen over plain TCP even where other machines can connect: each can speak for \
+               any client",
     };
     STORE = Key {
         name: "store",
@@ -195,7 +195,7 @@ settings! {
         default: "128",
         expected: "the most slots of one grant, from 1 to 128",
         help: "How many slots one grant takes at most, from 1 to 128: a client that reads many \
-               rows for the first time asks once per that many slots",
+               rows for the first time asks for that many at a time",
     };
     SHARD = Key {
         name: "shard",
@@ -204,8 +204,8 @@ settings! {
         default: "",
         expected: "FIRST..END@VERSION, such as 0..500000@3, or 500000..@3 for the last shard",
         help: "The shard that the server serves, FIRST..END@VERSION: its keys, and the version of \
-               the map in which they became its. Clients of another shard are refused. The store keeps \
-               it: then it may be left out",
+               the map in which they became this shard. Clients of another shard are refused. Once \
+               the store keeps it, it may be left out",
     };
     MAP = Key {
         name: "map",
@@ -214,8 +214,8 @@ settings! {
         default: "",
         expected: "the file of a map of shards, or where the map is at home, as in `krl-server map`",
         help: "The map that clients follow, in a file or at home in etcd or PostgreSQL: ten seconds \
-               after the shard of this server is another one there, the server renews no lease of a \
-               client that has stayed",
+               after the shard of this server has changed there, the server no longer renews the leases \
+               of clients that have stayed",
     };
     ADVERTISE = Key {
         name: "advertise",
@@ -232,8 +232,8 @@ settings! {
         kind: Kind::Number,
         default: "5",
         expected: "a whole number of seconds from 2 to 3600",
-        help: "How many seconds a server over a cluster may be silent before another takes its \
-               place",
+        help: "How many seconds a server over a cluster may be silent before another one takes \
+               its place",
     };
     STATUS = Key {
         name: "status",
@@ -251,8 +251,8 @@ settings! {
         kind: Kind::Text,
         default: "",
         expected: "addresses of status ports, at most 63, such as 10.0.0.2:7401 tls:db3:7401",
-        help: "The status ports of the other servers, of those that stand by and of other shards, \
-               separated by spaces: the page of this server shows them too",
+        help: "The status ports of other servers, which stand by or have other shards, separated \
+               by spaces: the page of this server shows them too",
     };
     LOG_LEVEL = Key {
         name: "log-level",
@@ -286,7 +286,6 @@ settings! {
         kind: Kind::Number,
         default: "25",
         expected: "a whole number from 0 to 100",
-        help: "How much further this machine's clock may advance than a client's meanwhile, in \
-               percent",
+        help: "By how many percent this machine's clock may run faster than a client's",
     };
 }

@@ -85,7 +85,7 @@ fn a_caller_reads_the_connection_while_it_waits() {
     let listener = Listener::bind(&"127.0.0.1:0".parse().unwrap()).unwrap();
     let server = Server::start(listener, MemoryStore::default()).unwrap();
     let carrier = Carrier::connect(server.address(), None, LONG).unwrap();
-    // No thread of the link runs, which would read it else.
+    // No thread of the link runs, which would read it otherwise.
     let (link, _poller) = link_over(carrier);
     let joining = link.begin(State::join);
     assert_eq!(link.read_until(&joining.answer, Instant::now() + LONG), Some(Ok(())));

@@ -104,7 +104,7 @@ impl Connection {
                 return Err(Lost::Late);
             }
             if now >= silent_at {
-                let why = "the server was asked, and is silent";
+                let why = "the server does not answer";
                 return Err(Lost::Failed(io::Error::new(ErrorKind::TimedOut, why)));
             }
             self.wait(now, deadline.min(silent_at))?;
@@ -212,5 +212,5 @@ impl From<io::Error> for Lost {
 }
 
 fn bad_answer() -> io::Error {
-    io::Error::new(ErrorKind::InvalidData, "the rows are not those that were asked for")
+    io::Error::new(ErrorKind::InvalidData, "the server sent other rows than were requested")
 }

@@ -9,8 +9,8 @@ use crate::net::servers::Servers;
 use std::io;
 use std::time::{Duration, Instant};
 
-/// So many connections in a row have to be answered by another program before a reader gives up that
-/// no server has answered yet.
+/// This many connections in a row have to be answered by another program before a reader gives up
+/// that no server has answered yet.
 const STRANGERS: u32 = 2;
 
 /// How the connections of a reader of one server ended since it had an answer.

@@ -83,7 +83,7 @@ fn a_client_that_is_refused_for_another_store_keeps_its_mark_and_its_incarnation
 }
 
 #[test]
-fn a_connection_begins_with_the_greeting_and_goes_on_by_its_terms() {
+fn a_connection_begins_with_the_greeting_and_continues_by_its_terms() {
     let mut session = session("unix:nowhere");
     let greeting = connect(&mut session);
     let first = split(&greeting).next().unwrap().0;
@@ -226,7 +226,7 @@ fn a_client_that_has_joined_waits_for_its_server_whatever_else_answers_there() {
     assert!(read.answer.try_recv().is_err());
     let after_a_frame = [&terms(&connect(&mut session)), OF_HTTP].concat();
     let end = receive(&mut session, &after_a_frame).unwrap_err().to_string();
-    assert!(end.contains("the server sends what no server sends"), "{end}");
+    assert!(end.contains("the server sent a message that no krl server sends"), "{end}");
 }
 
 /// An attempt to connect that is refused, and the pause after it.

@@ -9,12 +9,12 @@
 //!   the gap below it does not know where the slot begins: the callback that took the gap was the
 //!   last message to state it.
 //! - What was called back since a caller asked last? It may read that ahead.
-//! - Which callbacks may have crossed a push? A server passes over a release that names an older
-//!   push than its last one. So a release is lost that is sent while a push is on its way, and the
-//!   server calls back again. Of a client that asks for the next thing as soon as the last one is
-//!   answered a push would be on its way each time, and others would wait for long. So it takes
-//!   such a callback again as soon as it has the push, before it asks for anything else. The
-//!   library sends the release again then, and this time it names that push.
+//! - Which callbacks may have crossed a push? A server ignores a release that names an older push
+//!   than its last one. So a release that is sent while a push is on its way is lost, and the
+//!   server calls back again. If a client asks for the next thing as soon as the last one is
+//!   answered, a push is always on its way, and others would wait for long. So it takes such a
+//!   callback again as soon as it has the push, before it asks for anything else. The library sends
+//!   the release again then, and this time it names that push.
 use super::State;
 use crate::model::code::Code;
 use crate::proved::client_handle::{ClientHandle, Shown};
@@ -23,7 +23,7 @@ use std::collections::VecDeque;
 use std::ops::Range;
 use std::time::{Duration, Instant};
 
-/// So many callbacks are noted, and the oldest one is forgotten for the next. If one is forgotten
+/// This many callbacks are noted, and the oldest one is forgotten for the next. If one is forgotten
 /// too early, a write makes a trip in vain, or a request may wait until it times out.
 const MAX_CALLBACKS: usize = 256;
 

@@ -1,26 +1,27 @@
 //! Where other clients are at work, so that a write asks for its lock there first.
 //!
-//! A client that holds nothing where it inserts or puts a row asks for a lock, which is one trip,
-//! and then writes, which is another one. A write may take its lock by itself instead, in one trip,
-//! if nobody waits there and no other client's lock forbids it. If that is not so, it is judged
-//! `NotHeld`, and the trip was made in vain: then the client asks for the lock after all. So a write
-//! takes its lock only where nothing was called back lately, and a few writes take none after one
-//! whose lock was not free.
+//! A client that holds nothing where it inserts or puts a row asks for a lock, which is one round
+//! trip, and then writes, which is another one. A write may take its lock by itself instead, in one
+//! round trip, if nobody waits there and no other client's lock forbids it. Otherwise it is judged
+//! `NotHeld`, the round trip was made in vain, and the client asks for the lock after all. So a
+//! write takes its lock only where nothing was called back recently, and a few writes take none
+//! after one whose lock was not free.
 //!
-//! A client to which the server has answered nothing yet asks for its lock first too. If it has no
-//! right to rows, it learns so before it has sent a write, and knows that nothing was changed.
+//! A client that the server has not answered yet asks for its lock first too. If it has no right to
+//! rows, it learns that before it has sent a write, and knows that nothing was changed.
 use super::bound::{Bond, Wanted};
 use super::{JobId, State};
 use crate::model::change::Write;
 
-/// If the lock of a write was not free, so many writes ask for theirs first: it is the first of them.
+/// If the lock of a write was not free, this many writes ask for theirs first: it is the first of
+/// them.
 const PAUSE: u8 = 8;
 
 /// Whether writes try to take their locks, but for where others are at work.
 #[derive(Debug, Default)]
 pub(super) struct Attempts {
     is_served: bool,
-    /// So many writes do not.
+    /// This many writes do not.
     pause: u8,
 }
 

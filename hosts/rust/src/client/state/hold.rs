@@ -19,7 +19,7 @@ pub enum Purpose {
     Read,
     /// Others may read the range, and nobody else may change it next.
     Update,
-    /// Nobody else has anything of the range, so a write in it asks for nothing more.
+    /// Nobody else has anything of the range, so a write in it asks for no lock.
     Write,
 }
 

@@ -9,15 +9,15 @@
 //!
 //! The client no longer sees then how often others write there. So after many reads it keeps what
 //! it reads, and counts again: after more reads each time that it did not pay. A few clients that
-//! keep a row hinder its writers as much as many do, so this is seldom, and short.
+//! keep a row hinder its writers as much as many do, so this is rare, and short.
 //!
 //! The client counts by regions of the table, since one region may be written and another one not.
 //! Few counts decide if it has lost more than it saved there before, or everywhere just now: one
-//! that reads a little everywhere would take long to find that nothing of it pays.
+//! that reads a little everywhere would take long to find that keeping does not pay.
 //!
-//! Nothing depends on this but how long calls take. What is given back while another call needs it
-//! is asked for again, and of a release that the server passes over it calls the client back later.
-//! But whoever waits for changes of a range does so by what the client knows of it, and would read
+//! Only how long calls take depends on this. What is given back while another call needs it is
+//! asked for again, and if the server ignores a release, it calls the client back later. But a
+//! caller that waits for changes of a range does so by what the client knows of it, and would read
 //! it again and again. So what was watched once is kept.
 use super::sharing::entry_of;
 use super::{Job, JobId, State};
@@ -26,12 +26,12 @@ use crate::proved::hits::{Hits, REGIONS, region_of, regions_of};
 use std::mem;
 use std::ops::Range;
 
-/// After so many rows were lost or scans answered it is decided; and after so few if it did not pay
-/// there before, or does not pay elsewhere.
+/// After this many rows were lost or scans answered it is decided; and after so few if it did not
+/// pay there before, or does not pay elsewhere.
 const ENOUGH: u32 = 16;
 const FEW: u32 = 3;
 
-/// So many reads of the server give back what they have read, before the client counts again.
+/// This many reads of the server give back what they have read, before the client counts again.
 const FEWEST_READS: u16 = 256;
 const MOST_READS: u16 = 4096;
 
@@ -62,7 +62,7 @@ struct Count {
 #[derive(Clone, Copy, Debug, Default)]
 struct Region {
     count: Count,
-    /// So many more reads of the server give back what they have read.
+    /// This many more reads of the server give back what they have read.
     gives_back: u16,
     /// How many did so the last time: none if it paid to keep it.
     gave_back: u16,

@@ -148,8 +148,8 @@ impl State {
         }
     }
 
-    /// Whether the pin is one of the client of now that its caller still has, and its lease holds.
-    /// A client that leaves gives back what it has pinned.
+    /// Whether the caller still has the pin, it is of this incarnation, and the lease holds. A
+    /// client that leaves gives back what it has pinned.
     pub fn holds_pin(&self, id: u64) -> bool {
         self.held.pins.has(id) && self.life.is_here() && self.holds_lease()
     }

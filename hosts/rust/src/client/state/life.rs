@@ -100,9 +100,9 @@ impl Life {
 }
 
 impl Job {
-    /// What happens to an open job when the client drops all. After the end of a lease it goes on
-    /// from its start. If the store went back or is another one, only those continue that join
-    /// and leave.
+    /// What happens to an open job when the client drops all. After the end of a lease it continues
+    /// from its start. If the store went back or is another one, only those continue that join and
+    /// leave.
     fn after_drop(self, why: Dropped) -> Option<Job> {
         match (self, why) {
             (Job::Hold(taking, reply), Dropped::LeaseEnded) => {
@@ -194,7 +194,7 @@ impl State {
     }
 
     /// The server has not kept in time that the client leaves, and the client ends all the same: it
-    /// knows nothing any more, and a write that may have left may be done or not.
+    /// knows nothing any more, and a write that may have left may have been made or not.
     pub fn end_unanswered(&mut self) {
         if matches!(self.life.stage, Stage::Gone | Stage::Ended) {
             return;
@@ -229,7 +229,7 @@ impl State {
 
     /// The client drops all that it holds and knows, as if it had crashed, and is void until it
     /// begins again: no read is answered, nothing is sent, and nothing that comes is taken. A write
-    /// that is on its way ends: if it may have left, it is not known whether it is done. A client
+    /// that is on its way ends: if it may have left, it is not known whether it is made. A client
     /// that has left has nothing to drop.
     pub fn drop_all(&mut self, why: Dropped) {
         match self.life.stage {

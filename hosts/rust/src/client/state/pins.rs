@@ -6,7 +6,7 @@ use std::mem;
 use std::ops::Range;
 use std::time::{Duration, Instant};
 
-/// A pin remembers so many spans that were called back. From then on it takes them for one.
+/// A pin remembers this many spans that were called back. From then on it takes them for one.
 const MAX_CALLED: usize = 64;
 
 /// The pins of an incarnation.
@@ -152,7 +152,7 @@ impl State {
     pub fn unpin(&mut self, id: u64) {
         self.held.pins.give_up(id);
         self.free_pins();
-        // What is given back the client knows no more.
+        // The client no longer knows what it has given back.
         self.report_changes();
     }
 

@@ -2,13 +2,13 @@
 //!
 //! A client that has written a row holds it in X, so the next client that reads it waits until the
 //! server has called the writer back. Where other clients want the row, the writer gives back all
-//! but RangeS-U as soon as its write is judged, which is what the callback would leave it. It goes
-//! on to read the row, and the others read it without a callback. The release leaves together with
-//! the acknowledgement of the answer.
+//! but RangeS-U as soon as its write is judged, which is what the callback would leave it. It
+//! continues to read the row, and the others read it without a callback. The release leaves
+//! together with the acknowledgement of the answer.
 //!
 //! A client whose row nobody else wants keeps its X, and so writes again without asking for a lock.
 //! The client knows that others want a row if the row was called back while it had it in X. It does
-//! not know when they lose interest: so one callback counts for so many writes, and then the next
+//! not know when they lose interest: so one callback counts for this many writes, and then the next
 //! callback has to come.
 use super::{Job, State};
 use crate::model::lock::Mode;
@@ -20,7 +20,7 @@ use std::ops::Range;
 /// How many writes of a row one callback counts for.
 const WRITES: u8 = 8;
 
-/// So many rows are remembered. If one is forgotten, its next reader costs a callback.
+/// This many rows are remembered. If one is forgotten, its next reader costs a callback.
 const MAX_ROWS: usize = 4096;
 
 /// The rows that other clients want, and how many of the next writes of each are to share it.

@@ -31,7 +31,7 @@ impl World {
         World::of(2)
     }
 
-    /// So many clients that have joined.
+    /// This many clients that have joined.
     pub fn of(clients: u8) -> World {
         let (mut server, epoch) =
             ServerHandle::open(&Snapshot::default(), Room::default(), Reach::default()).unwrap();

@@ -190,7 +190,7 @@ impl State {
         }
     }
 
-    /// A delete keeps its slot no more.
+    /// A delete no longer keeps its slot.
     pub(super) fn let_go(&mut self, id: JobId, wanted: &mut Wanted) {
         if let Some(Kept { pin, .. }) = wanted.kept.take() {
             self.held.takings.ends(id);

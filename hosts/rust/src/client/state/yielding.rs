@@ -1,17 +1,18 @@
-//! What a client gives back before it asks for more of a slot, so that it passes nobody who waits.
+//! What a client gives back before it asks for more of a slot, so that it does not overtake clients
+//! that wait.
 //!
 //! A server puts a request in front of the others if its client already holds something of the
 //! slot. The request of a client that holds nothing goes to the end of the queue.
 //!
-//! A client that reads a slot and then asks to change it would pass the client that has the slot
-//! pinned for an update and asks for X. It would wait for that pin, and the other client would wait
-//! after it, until one of the two calls times out. With nothing held, the client that has the
+//! A client that reads a slot and then asks to change it would overtake the client that has the
+//! slot pinned for an update and asks for X. It would wait for that pin, and the other client would
+//! wait after it, until one of the two calls times out. With nothing held, the client that has the
 //! update mode writes first.
 //!
 //! A client that was called back from a gap keeps the entry at its end. Two clients that read the
-//! gap again would pass the one that waits to insert there, each while the other one still reads:
-//! one of them reads the gap at any time, and nobody ever inserts. With nothing held, each of them
-//! reads the gap again after the insert.
+//! gap again would overtake the one that waits to insert there, each while the other one still
+//! reads: at any time one of them reads the gap, and nobody ever inserts. With nothing held, each
+//! of them reads the gap again after the insert.
 mod reach;
 
 use super::request::Request;
@@ -23,7 +24,7 @@ use crate::proved::client_handle::{Scan, Shown};
 use reach::{TooFar, farthest};
 use std::ops::Range;
 
-/// So many rows are looked at to find where a gap ends.
+/// This many rows are looked at to find where a gap ends.
 const FEW: usize = 64;
 
 /// A slot that the client reads, and of which another client may have more or wait for more.

@@ -107,7 +107,7 @@ fn a_lease_that_ends_needs_a_clock() {
 }
 
 #[test]
-fn signs_ride_or_go_alone() {
+fn signs_ride_or_go_by_themselves() {
     let mut lease = lease();
     assert_eq!(lease.sign_due(at(u64::MAX - 1), Piggyback::OnMessages), None, "no terms yet");
     let mut lease = leased();

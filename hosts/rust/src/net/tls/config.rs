@@ -1,4 +1,4 @@
-//! What one side of a connection shows, and whom it believes.
+//! What one side of a connection shows, and whom it trusts.
 use super::certificate::{Certificate, Unfit};
 use crate::access::identity::TableName;
 use openssl::error::ErrorStack;
@@ -16,7 +16,7 @@ use std::path::{Path, PathBuf};
 use std::sync::{Arc, Mutex, MutexGuard, PoisonError};
 use std::time::{SystemTime, UNIX_EPOCH};
 
-/// What one side of a connection shows, and whom it believes.
+/// What one side of a connection shows, and whom it trusts.
 ///
 /// All certificates are of one authority, and each names its holder by names of the kind URI in its
 /// subjectAltName: `krl:client:3` may speak for the client 3, `krl:operator` may evict clients and
@@ -24,7 +24,7 @@ use std::time::{SystemTime, UNIX_EPOCH};
 /// table has a name, each is followed by `@` and that name, such as `krl:client:3@orders`, and
 /// names of other tables, or of none, count nothing.
 ///
-/// **Everybody whom the authority certifies is believed.** It has to be krl's own, or one that lets
+/// **Everybody whom the authority certifies is trusted.** It has to be krl's own, or one that lets
 /// nobody choose such names.
 ///
 /// A clone shares what was read: [`TlsConfig::reload`] changes all clones, and two configurations
@@ -109,7 +109,7 @@ impl TlsConfig {
         TlsConfig { table: Some(table), ..self }
     }
 
-    /// For a server, whose certificate clients believe now: it is valid, and names a server of the
+    /// For a server, whose certificate clients accept now: it is valid, and names a server of the
     /// table. [`TlsConfig::for_table`] has to come before. From now on [`TlsConfig::reload`]
     /// refuses any other certificate.
     ///
@@ -122,8 +122,8 @@ impl TlsConfig {
         Ok(TlsConfig { is_of_server: true, ..self })
     }
 
-    /// Reads the files again. Connections that are made from now on show and believe what they
-    /// contain now; existing ones continue.
+    /// Reads the files again. Connections that are made from now on use what they contain
+    /// now; existing ones continue.
     ///
     /// # Errors
     ///

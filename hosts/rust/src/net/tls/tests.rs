@@ -33,7 +33,7 @@ fn shake(client: &TlsConfig, server: &TlsConfig) -> io::Result<(TlsSession, TlsS
         came.extend(server.open(&client.take_sealed()?)?);
         client.open(&server.take_sealed()?)?;
     }
-    assert_eq!(came, b"first", "what was sent early comes once the hand-shake is done");
+    assert_eq!(came, b"first", "what was sent early comes once the handshake is done");
     Ok((client, server))
 }
 
@@ -106,7 +106,7 @@ fn a_stranger_sends_little_before_it_identifies_itself() {
         let mut session = TlsSession::new(&server, Side::Accepts).unwrap();
         assert!(session.open(bytes).is_err());
     }
-    // The head of a record of a hand-shake, and then nothing but its bytes.
+    // The head of a record of a handshake, and then nothing but its bytes.
     let mut session = TlsSession::new(&server, Side::Accepts).unwrap();
     let record = [&[22, 3, 1, 0x40, 0, 1, 0xff, 0xff, 0xff][..], &[0; 1 << 14]].concat();
     let answers = (0..8).map(|_| session.open(&record));
@@ -167,5 +167,5 @@ fn each_side_learns_why_it_is_refused() {
     let impostor = config(&theirs.certify_for(&ours, &folder.0, &["krl:server"], 4));
     let (kind, text) = why(&three, &impostor);
     assert_eq!(kind, ErrorKind::PermissionDenied);
-    assert!(text.contains("is not taken"), "{text}");
+    assert!(text.contains("is not accepted"), "{text}");
 }

@@ -13,7 +13,7 @@ use std::time::{Duration, Instant};
 struct Judged {
     callbacks: u64,
     scans: u64,
-    /// So many of them had rows.
+    /// This many of them had rows.
     wrong: u64,
 }
 

@@ -35,7 +35,7 @@ const SECOND: Duration = Duration::from_secs(1);
 /// How long a thread that has begun is watched, to see that it waits.
 const WATCHED: Duration = Duration::from_millis(300);
 
-/// So many threads read while the owner changes for a second, and at least so often. Each read is
+/// This many threads read while the owner changes for a second, and at least so often. Each read is
 /// of no change that is at work, and of no state older than the read before.
 fn reads_among_changes(readers: usize, least: u64) {
     let mut owner = Owner::new(Pair::default());
@@ -78,7 +78,7 @@ fn more_threads_than_places_read() {
 }
 
 #[test]
-fn no_reader_starves_beside_an_owner_that_changes_without_a_pause() {
+fn no_reader_starves_next_to_an_owner_that_changes_without_a_pause() {
     const READS: u64 = 200;
     let mut owner = Owner::new(Pair::default());
     let left = AtomicUsize::new(4);

@@ -131,7 +131,7 @@ fn unwritten(connections: &Rig, number: u64) -> bool {
     connections.open[&number].connection.interest() != IoInterest::Reads
 }
 
-/// Sends so much to client 3 that its peer, which reads nothing, takes no more.
+/// Sends this much to client 3 that its peer, which reads nothing, takes no more.
 fn stuff(connections: &mut Rig, number: u64) {
     let bytes = frame(&vec![7; 1 << 20]);
     connections.route(3, number);

@@ -18,7 +18,7 @@ pub(super) struct Doubt {
 }
 
 impl EventLoop {
-    /// Answers the Hello of a client's host, which has seen so much of a store.
+    /// Answers the Hello of a client's host, which has seen this much of a store.
     pub(super) fn greet(&mut self, connection: u64, seen: Option<Seen>) {
         match seen.map(|seen| (seen.mark, self.compare_store(seen))) {
             None | Some((_, Comparison::HasAll)) => self.greet_back(connection),
@@ -81,8 +81,8 @@ impl EventLoop {
         }
     }
 
-    /// What the store is to a client that has seen so much. One without a history has sent nobody a
-    /// mark, and so lacks each.
+    /// Compares the store with what the client has seen. A store without a history lacks every
+    /// mark: it has sent none.
     fn compare_store(&self, seen: Seen) -> Comparison {
         self.history.as_ref().map_or(Comparison::Lacks, |history| history.compare(seen))
     }

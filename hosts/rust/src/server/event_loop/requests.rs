@@ -62,7 +62,7 @@ impl OpenRequests {
         self.left_until(now, less_than).count()
     }
 
-    /// How soon the first of those will have waited for so long.
+    /// How long until the first of them has waited for that time.
     pub fn youth_left(&self, now: Instant, less_than: Duration) -> Option<Duration> {
         self.left_until(now, less_than).min()
     }

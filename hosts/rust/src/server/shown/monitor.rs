@@ -22,7 +22,7 @@ pub struct Monitor {
     pub(crate) longest_store_wait: Duration,
 }
 
-/// Why a server gave no snapshot.
+/// Why a server returned no snapshot.
 #[derive(Debug)]
 #[non_exhaustive]
 pub enum SnapshotError {
@@ -79,7 +79,7 @@ impl Monitor {
     }
 
     /// Who holds which slots that meet this range, at most this many (64 if fewer are asked for),
-    /// and who waits there. Slots of a client are reported one by one, even if neighbours have one
+    /// and who waits there. Slots of a client are reported one by one, even if neighbors have one
     /// mode.
     ///
     /// The server reports them between its turns, in pages of up to 1,024 slots and some

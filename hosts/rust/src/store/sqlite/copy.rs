@@ -56,7 +56,7 @@ impl SqliteStore {
     pub fn read(path: impl AsRef<Path>) -> Result<StoreFile, StoreError> {
         let connection = open_to_read(path.as_ref())?;
         let version = match look(&connection)? {
-            Found::New => return Err(StoreError::failed("the file is empty: it is no store")),
+            Found::New => return Err(StoreError::failed("the file is empty: it is not a store")),
             Found::Bare => return Err(StoreError::failed(version::BARE)),
             Found::Older(version) => version,
             Found::Current => VERSION,
@@ -119,12 +119,12 @@ impl SqliteStore {
     }
 }
 
-/// So many bytes of a file of SQLite have its application id.
+/// This many bytes of a file of SQLite have its application id.
 const FIRST_BYTES: u64 = 100;
 
-/// A store whose server has ended in order has no log, or an empty one. Then the file is opened as
-/// one to which nobody writes. A log that has something in it is read too. A server that runs has
-/// one, and keeps others off. SQLite leaves no files next to it in either case.
+/// A store whose server has shut down cleanly has no log, or an empty one. Then the file is opened
+/// as one to which nobody writes. A log that has something in it is read too. A server that runs
+/// has one, and keeps others off. SQLite leaves no files next to it in either case.
 fn open_to_read(path: &Path) -> Result<Connection, StoreError> {
     if let Err(error) = path.metadata() {
         return Err(StoreError::failed(match error.kind() {
@@ -350,7 +350,7 @@ pub(crate) mod tests {
     }
 
     #[test]
-    fn a_store_is_read_and_nothing_is_left_beside_it() {
+    fn a_store_is_read_and_nothing_is_left_next_to_it() {
         let folder = Folder::new("read");
         let file = folder.0.join("a b?#%41é.db");
         let mut store = SqliteStore::open(&file).unwrap();
@@ -373,7 +373,7 @@ pub(crate) mod tests {
     }
 
     #[test]
-    fn a_file_that_is_there_is_left_alone() {
+    fn a_file_that_is_there_stays_as_it_is() {
         let folder = Folder::new("there");
         let file = folder.0.join("copy.db");
         std::fs::write(&file, "mine").unwrap();
@@ -423,7 +423,7 @@ pub(crate) mod tests {
         let file = folder.0.join("other.db");
         assert!(SqliteStore::read(&file).is_err(), "there is none");
         assert!(!file.exists());
-        std::fs::write(&file, "this is a text, and no database of SQLite").unwrap();
+        std::fs::write(&file, "this is a text, and not a database of SQLite").unwrap();
         assert!(SqliteStore::read(&file).is_err());
         std::fs::remove_file(&file).unwrap();
         Connection::open(&file).unwrap().execute_batch("CREATE TABLE t (a)").unwrap();
@@ -480,7 +480,7 @@ pub(crate) mod tests {
     }
 
     #[test]
-    fn a_store_of_an_unknown_version_is_refused_and_left_alone() {
+    fn a_store_of_an_unknown_version_is_refused_and_stays_as_it_is() {
         let folder = Folder::new("newer");
         let file = folder.0.join("new.db");
         SqliteStore::create(&file, &snapshot()).unwrap();

@@ -21,8 +21,8 @@ use std::sync::OnceLock;
 /// The name of the layer, as SQLite knows it.
 const NAME: &CStr = c"krl-joined";
 
-/// So many bytes are kept at most. SQLite's layer for Unix masks a length by 0x1ffff, so that a write
-/// of 131,072 bytes would write nothing.
+/// This many bytes are kept at most. SQLite's layer for Unix masks a length by 0x1ffff, so that a
+/// write of 131,072 bytes would write nothing.
 const MOST_BYTES: usize = 1 << 16;
 
 /// The flag by which SQLite opens the log of a database. Not each version of the bindings has it.
@@ -49,7 +49,7 @@ struct Kept {
 }
 
 impl Kept {
-    /// Whether a write of so many bytes there continues what is kept.
+    /// Whether a write of this many bytes there continues what is kept.
     fn takes(&self, length: usize, at: i64) -> bool {
         let end =
             i64::try_from(self.bytes.len()).ok().and_then(|kept| self.start.checked_add(kept));
@@ -253,7 +253,7 @@ unsafe extern "C" fn write(
         // SAFETY: as above. If it fails, the write below fails as well.
         let _ = unsafe { flush(file) };
     }
-    // SAFETY: SQLite has so many bytes there.
+    // SAFETY: SQLite has this many bytes there.
     let bytes = unsafe { slice::from_raw_parts(bytes.cast::<u8>(), length) };
     // SAFETY: SQLite calls it with an open log.
     unsafe { kept(file) }.map_or(ffi::SQLITE_MISUSE, |kept| kept.put(bytes, at))

@@ -30,11 +30,12 @@ const ALL: &str = "SELECT changes FROM journal ORDER BY batch";
 const REMOVE: &str = "DELETE FROM journal WHERE batch < ?1";
 const CLEAR: &str = "DELETE FROM journal";
 
-/// So many changes are gathered before they are folded: the more, the more of them are of one row
+/// This many changes are gathered before they are folded: the more, the more of them are of one row
 /// or of neighbors. A start reads at most some two times as many, in a few milliseconds.
 const GATHERED_CHANGES: usize = 4096;
 
-/// A commit folds so many rows more than it has changes: so a fold ends before the next one is due.
+/// A commit folds this many rows more than it has changes: so a fold ends before the next one is
+/// due.
 ///
 /// Of 200,000 writes evenly over 100,000 rows, by turns in a file in memory, one commit in 10,000 took
 /// longer than 1.0 ms with 8 rows, 1.3 with 32 and 1.5 with 128, and than 10.6 if a fold was made at
@@ -42,7 +43,7 @@ const GATHERED_CHANGES: usize = 4096;
 /// then, and 10 with 32.
 const FOLDED_ROWS: usize = 32;
 
-/// A commit removes so many folded batches at most.
+/// A commit removes this many folded batches at most.
 const REMOVED_BATCHES: u64 = 256;
 
 /// What the journal of the file has, as the value that writes it knows it.

@@ -95,7 +95,7 @@ impl Merged {
             && rows.is_empty()
     }
 
-    /// Takes a part out: so many rows, which are neighbors, and all that is not of rows.
+    /// Takes a part out: this many rows, which are neighbors, and all that is not of rows.
     pub fn take_part(&mut self, rows: usize) -> Merged {
         let rest = match self.rows.keys().nth(rows).copied() {
             Some(next) => self.rows.split_off(&next),

@@ -37,7 +37,7 @@ pub(super) struct Known {
 }
 
 impl Known {
-    /// The state of now. The number is read first: a commit of another connection between the two
+    /// The current state. The number is read first: a commit of another connection between the two
     /// reads makes the next commit compare the marks.
     pub fn read(connection: &Connection) -> Result<Known, StoreError> {
         let version = data_version(connection)?;

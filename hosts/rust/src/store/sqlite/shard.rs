@@ -36,7 +36,7 @@ pub(super) fn read(connection: &Connection) -> Result<Option<KeptShard>, StoreEr
 }
 
 fn bounds([first, last, version]: [i64; 3]) -> Result<ShardBounds, StoreError> {
-    let strange = || StoreError::failed("the shard in the store is none");
+    let strange = || StoreError::failed("what the store has as its shard is not a shard");
     let version = NonZeroU64::new(positive(version)?).ok_or_else(strange)?;
     ShardBounds::new(positive(first)?..positive(last)? + 1, version).map_err(|_| strange())
 }

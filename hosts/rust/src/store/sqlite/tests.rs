@@ -129,7 +129,7 @@ fn a_batch_of_any_kind_is_counted_once_and_an_earlier_start_keeps_its_count() {
 }
 
 #[test]
-fn an_older_store_goes_on_to_count_where_it_was() {
+fn an_older_store_continues_to_count_where_it_was() {
     let folder = std::env::temp_dir().join(format!("krl-older-counts-{}", std::process::id()));
     std::fs::create_dir_all(&folder).unwrap();
     let of_records = format!("{COUNTS} UPDATE record SET commits = 3 + 4 * (client = 2);");

@@ -38,7 +38,7 @@ fn found(pages: i64, application: i64, version: i64, tables: &[String]) -> Resul
         (APPLICATION, other) => Err(format!(
             "the store has version {other}, and this program reads versions up to {VERSION}"
         )),
-        _ => Err("the file is a database of another program, and no store of krl".to_string()),
+        _ => Err("the file is a database of another program, and not a store of krl".to_string()),
     }
 }
 
@@ -55,8 +55,8 @@ pub(crate) fn look(connection: &Connection) -> Result<Found, StoreError> {
 }
 
 /// What is wrong with a file that has bytes and no tables.
-pub(crate) const BARE: &str = "the file is no store: it has no tables. If it was copied next to a \
-    running server, its log is missing, the file whose name ends in -wal: take copies by \
+pub(crate) const BARE: &str = "the file is not a store: it has no tables. If it was copied next to \
+    a running server, its log is missing, the file whose name ends in -wal: take copies by \
     `krl-server backup`. If the first start on it was cut off, remove it";
 
 /// How the first bytes of a file of SQLite begin, and where its application id stands in them.
@@ -70,12 +70,12 @@ pub(crate) fn judge_first_bytes(bytes: &[u8]) -> Result<(), &'static str> {
         return Ok(());
     }
     if !bytes.starts_with(MAGIC) {
-        return Err("the file is no database of SQLite, and no store of krl");
+        return Err("the file is not a database of SQLite, and not a store of krl");
     }
     let application = bytes.get(APPLICATION_AT..).and_then(<[u8]>::first_chunk);
     match application.map(|id| i64::from(u32::from_be_bytes(*id))) {
         Some(0 | APPLICATION) => Ok(()),
-        _ => Err("the file is a database of another program, and no store of krl"),
+        _ => Err("the file is a database of another program, and not a store of krl"),
     }
 }
 

@@ -37,7 +37,7 @@ fn looks_take_less_than_a_hundredth_of_the_loops_time() {
 }
 
 #[test]
-fn a_look_goes_on_until_it_is_whole_and_then_rests() {
+fn a_look_continues_until_it_is_whole_and_then_rests() {
     let (server, mut views, start) = (server(), Views::default(), Instant::now());
     let after = |millis| start + Duration::from_millis(millis);
     let (begun, done) = searches();
@@ -95,7 +95,7 @@ fn a_look_that_fails_is_reported_until_one_succeeds() {
 }
 
 #[tokio::test]
-async fn a_server_is_looked_at_and_left_alone_when_nobody_asks() {
+async fn a_server_is_looked_at_only_when_somebody_asks() {
     let (server, looks) = (server(), Looks::default());
     let held = looks.at(&server.monitor(), 1, &(0..9)).await.unwrap();
     assert_eq!((held.runs, held.next), (Vec::new(), None));

@@ -19,7 +19,7 @@ const OTHER: Range<u64> = 1000..1100;
 const BETWEEN: u64 = 500;
 
 /// The patient client's request and the callback, the release and the grant, the write and its
-/// answer: so many round trips without a hasty one. A release that is passed over is one more.
+/// answer: this many round trips without a hasty one. A release that is passed over is one more.
 const FEW: usize = 4;
 const MANY: usize = 100;
 
@@ -50,7 +50,7 @@ fn trip(world: &mut World, mut hasten: impl FnMut(&mut World)) -> Vec<u8> {
     hasty.iter().map(|message| message[1]).collect()
 }
 
-/// So many round trips with nobody in haste.
+/// This many round trips with nobody in haste.
 fn trips(world: &mut World, count: usize) -> Vec<u8> {
     (0..count).flat_map(|_| trip(world, |_| {})).collect()
 }

@@ -17,7 +17,7 @@ const DELETE: u8 = 6;
 const TAKING_INSERT: u8 = 9;
 const TAKING_PUT: u8 = 10;
 
-/// So many round trips end every write here.
+/// This many round trips end every write here.
 const ENOUGH: usize = 20;
 
 /// What the writer sends for a write until it is applied, by its kinds, without what it only

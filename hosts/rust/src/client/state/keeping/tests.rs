@@ -18,7 +18,7 @@ fn world() -> World {
     world
 }
 
-/// Client 0 writes the row, and client 1 reads it, and then so many times from its cache.
+/// Client 0 writes the row, and client 1 reads it, and then this many times from its cache.
 fn write_and_read(world: &mut World, number: u64, scans: usize) {
     assert_eq!(world.write(0, Write::Put(row(KEY, number))), Outcome::Applied);
     assert_eq!(world.read(1, ROW), [row(KEY, number)]);

@@ -10,7 +10,8 @@ use crate::proved::client_handle::{ClientHandle, Scan};
 const LONG: u64 = 60_000_000_000;
 const SHORT: Duration = Duration::from_millis(30);
 
-/// A lease, and the longest times after which a sign does not yet ride on messages and go alone.
+/// A lease, and the longest times after which a sign does not yet ride on messages, or goes by
+/// itself.
 const LEASE: Duration = Duration::from_secs(3);
 const RIDES_NOT: Duration = Duration::from_nanos(499_999_999);
 const GOES_NOT_ALONE: Duration = Duration::from_nanos(999_999_999);
@@ -173,7 +174,7 @@ fn signs(state: &mut State) -> usize {
 }
 
 #[test]
-fn signs_ride_on_messages_and_go_alone_when_they_must() {
+fn signs_ride_on_messages_and_go_by_themselves_when_they_must() {
     let mut state = client();
     lease_for(&mut state, nanoseconds(LEASE));
     pass(&mut state, RIDES_NOT);

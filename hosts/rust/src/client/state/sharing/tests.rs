@@ -49,7 +49,7 @@ fn a_row_that_others_read_is_read_without_a_callback_after_a_write() {
         put(&mut world, number);
         assert!(world.is_cached(0, 10..11), "the writer goes on to read it");
         let callbacks = callbacks_until_read(&mut world, number);
-        // One callback counts for so many writes.
+        // One callback counts for this many writes.
         let is_due = (number - 2) % (u64::from(WRITES) + 1) == u64::from(WRITES);
         assert_eq!(callbacks, usize::from(is_due), "write {number}");
     }
@@ -66,7 +66,7 @@ fn a_row_that_nobody_else_wants_stays_in_x() {
 }
 
 #[test]
-fn a_row_is_shared_for_so_many_writes_after_a_callback() {
+fn a_row_is_shared_for_some_writes_after_a_callback() {
     let mut world = wanted_by_the_other();
     for number in 2..2 + u64::from(WRITES) {
         put(&mut world, number);

@@ -172,7 +172,7 @@ impl HastyReaders {
     }
 }
 
-/// So many round trips does a write take that is not kept waiting, and a few more.
+/// This many round trips does a write take that is not kept waiting, and a few more.
 const FEW: usize = 8;
 
 #[test]
@@ -196,7 +196,7 @@ fn who_reads_again_what_was_called_back_keeps_no_writer_waiting() {
 }
 
 #[test]
-fn who_inserts_goes_on_to_read_the_entry_above() {
+fn a_client_that_inserts_continues_to_read_the_entry_above() {
     let mut world = read_without_its_gap();
     assert_eq!(world.write(1, Write::Insert(row(9, 3))), Outcome::Applied);
     assert!(world.is_cached(1, 9..11));

@@ -16,7 +16,7 @@ const DELETED: u8 = 5;
 const LEASED: u8 = 6;
 const ROOM: u8 = 7;
 
-/// A judged put has so many bytes at most.
+/// A judged put has this many bytes at most.
 const CHANGE_BYTES: usize = 52;
 
 /// The bytes of a batch without a start.

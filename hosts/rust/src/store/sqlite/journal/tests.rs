@@ -42,7 +42,7 @@ impl Checked {
         assert_eq!(mark.commits, self.commits);
     }
 
-    /// Puts so many rows with these keys, in one batch.
+    /// Puts this many rows with these keys, in one batch.
     fn put(&mut self, keys: impl Iterator<Item = u64>) {
         let number = self.commits;
         let put =
