@@ -457,6 +457,8 @@ impl Sending<'_> {
     pub fn end(self) {
         let Sending { connections, seen } = self;
         let mut sending = std::mem::take(&mut connections.sending);
+        // No client waits until all readers are written to.
+        sending.sort_by_key(|number| connections.readers.contains(number));
         for number in sending.drain(..) {
             if let Some(peer) = connections.open.get_mut(&number) {
                 peer.is_in_sending = false;

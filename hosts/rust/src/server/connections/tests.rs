@@ -382,6 +382,21 @@ fn a_stranger_makes_room_for_one_more_and_a_known_peer_does_not() {
 }
 
 #[test]
+fn readers_are_written_to_after_all_others() {
+    let (mut connections, at, _waker) = connections();
+    let (_reader, reader) = peer(&mut connections, at);
+    let (_client, client) = peer(&mut connections, at);
+    assert!(connections.enter_reader(reader));
+    for number in [reader, client] {
+        connections.send_after_commit(number, &frame(b"rows"));
+    }
+    connections.committed();
+    connections.send(None).end();
+    let written: Vec<u64> = std::iter::from_fn(|| connections.next_to_write()).collect();
+    assert_eq!(written, [client, reader]);
+}
+
+#[test]
 fn readers_have_places_of_their_own_and_only_so_many() {
     let (mut connections, at, _waker) = connections();
     let (_stream, number) = peer(&mut connections, at);

@@ -16,12 +16,15 @@ use std::collections::BTreeMap;
 use std::mem;
 use std::time::Instant;
 
+/// Next to clients, readers get one of so many parts of the server's time.
+const PARTS: u32 = 3;
+
 /// The questions that wait for a commit, at most one of each connection, and when readers may ask.
 #[derive(Debug, Default)]
 pub(super) struct Reads {
     waiting: BTreeMap<u64, ReadRequest>,
-    /// When readers have had no more time than clients.
-    even_at: Option<Instant>,
+    /// When readers have had no more than their part of the time.
+    due_at: Option<Instant>,
 }
 
 impl Reads {
@@ -36,16 +39,16 @@ impl Reads {
     }
 
     /// Whether a turn takes something from readers that has judged so many messages of clients: next
-    /// to clients they get half of the server's time, and all that clients leave. A call of a client
-    /// may take many turns.
+    /// to clients they get a part of the server's time, and all that clients leave. A call of a
+    /// client may take many turns.
     pub fn are_due(&self, messages: usize, now: Instant) -> bool {
-        messages == 0 || self.even_at.is_none_or(|even_at| now >= even_at)
+        messages == 0 || self.due_at.is_none_or(|due_at| now >= due_at)
     }
 
     /// A turn has taken something from readers since `began`, and has ended. What it did for clients
     /// meanwhile counts as done for readers.
     pub fn answered(&mut self, began: Instant, ended: Instant) {
-        self.even_at = Some(ended + ended.saturating_duration_since(began));
+        self.due_at = Some(ended + (PARTS - 1) * ended.saturating_duration_since(began));
     }
 }
 
@@ -127,14 +130,14 @@ mod tests {
     }
 
     #[test]
-    fn next_to_clients_readers_get_half_of_the_time() {
+    fn next_to_clients_readers_get_a_third_of_the_time() {
         const MS: Duration = Duration::from_millis(1);
         let (mut reads, began) = (Reads::default(), Instant::now());
         assert!(reads.are_due(1, began));
-        let ended = began + 3 * MS;
+        let ended = began + 2 * MS;
         reads.answered(began, ended);
         let is_due = |after| [0, 1].map(|messages| reads.are_due(messages, ended + after));
-        assert_eq!(is_due(2 * MS), [true, false]);
-        assert_eq!(is_due(3 * MS), [true, true]);
+        assert_eq!(is_due(3 * MS), [true, false]);
+        assert_eq!(is_due(4 * MS), [true, true]);
     }
 }
