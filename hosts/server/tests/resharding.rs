@@ -231,13 +231,14 @@ fn two_stores_are_merged_once() {
 fn a_merge_continues_after_a_store_was_served_since() {
     let folder = tempfile::tempdir().unwrap();
     let path = |name: &str| folder.path().join(name).to_str().unwrap().to_string();
-    let [lower, upper, whole, map, next] =
-        ["a.db", "b.db", "whole.db", "4.toml", "5.toml"].map(path);
+    let [lower, upper, whole, other, map, next] =
+        ["a.db", "b.db", "whole.db", "other.db", "4.toml", "5.toml"].map(path);
     let rows = |keys: &[u64]| keys.iter().map(|key| (*key, Value::from(0))).collect();
     for (store, shard, keys) in [
         (&lower, "0..100@5 sealed", &[5][..]),
         (&upper, "100..@4", &[105, 107]),
         (&whole, "0..@5 sealed", &[5, 105]),
+        (&other, "0..@5", &[5, 105]),
     ] {
         let (shard, rows) = (shard.parse().ok(), rows(keys));
         SqliteStore::create(store, &Snapshot { shard, rows, ..Snapshot::default() }).unwrap();
@@ -246,9 +247,13 @@ fn a_merge_continues_after_a_store_was_served_since() {
         format!("\n[[shard]]\nfirst = {first}\nservers = \"127.0.0.1:{}\"\n", first + 1)
     };
     std::fs::write(&map, format!("version = 4\n{}{}", shard(0), shard(100))).unwrap();
+    let merge = |new: &String| {
+        run(&["merge", &lower, &upper, new, "--map", &map, "--at", "100", "--new-map", &next])
+    };
+    assert_eq!(merge(&other).status.code(), Some(1), "a server may have started on it");
+    assert_eq!(SqliteStore::read(&other).unwrap().snapshot.rows, rows(&[5, 105]));
     for _ in 0..2 {
-        let words = ["--map", &map, "--at", "100", "--new-map", &next];
-        let done = run(&[&["merge", &lower, &upper, &whole], &words[..]].concat());
+        let done = merge(&whole);
         assert_eq!(done.status.code(), Some(0), "{}", errors(&done));
     }
     let found = SqliteStore::read(&whole).unwrap().snapshot;
