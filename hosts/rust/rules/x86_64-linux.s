@@ -223,9 +223,9 @@ core.slice.edits.mirror.i64:
 	.quad	0x8090a0b0c0d0e0f,0x1020304050607,0x1020304050607,0x0
 .Lin.LCPI111_2:
 	.quad	0x1020304050607,0x0
-.Lin.LCPI160_0:
+.Lin.LCPI161_0:
 	.quad	0x100000001,0x1
-.Lin.LCPI163_0:
+.Lin.LCPI164_0:
 	.quad	0x1,0x1,0x3,0x0
 .Lin.Lstatic.2:
 	.quad	0x100010000000000,0x302010002020000
@@ -7786,6 +7786,16 @@ krl_lease_take_terms:
 	.size	krl_version,6
 krl_version:
 	.byte	0xb8,0xe8,0x3,0x0,0x0,0xc3
+	.section	.text.krl_leased_scan_answer,"ax",@progbits
+	.balign	16
+.Lin.text.krl_leased_scan_answer:
+	.globl	krl_leased_scan_answer
+	.type	krl_leased_scan_answer,@function
+	.size	krl_leased_scan_answer,41
+krl_leased_scan_answer:
+	.quad	0x1047c700107f83,0x163b480c74000000,0x8578b48078b0f73,0x3b8d231c3
+	.quad	0xd23100000024b8c3
+	.byte	0xc3
 	.section	.text.krl_lease_table_admit,"ax",@progbits
 	.balign	16
 .Lin.text.krl_lease_table_admit:
@@ -8069,7 +8079,7 @@ krl_lease_table_shows:
 	.quad	0xff3102eb40167c8b,0x16448b4e084e8b4c,0x74167c8342ed3130,0xdb8841c5950f4000
 	.quad	0x3a0f66c36e0f4166,0xf82444c708c520,0xf02444c748000000,0xc0700f6600000000
 	.byte	0xe8,0x66,0xf,0xdb,0x5
-	.reloc	.,R_X86_64_PC32,.Lin.LCPI160_0-4
+	.reloc	.,R_X86_64_PC32,.Lin.LCPI161_0-4
 	.byte	0x0,0x0,0x0,0x0
 	.quad	0x48f0244c8b480889,0x89f8244c8b044889,0x89481040894c0c48,0x894c207889481850
 	.quad	0x5b3040d60f662848
@@ -8208,7 +8218,7 @@ krl_client_leave:
 	.byte	0x0,0x0,0x0,0x0
 	.quad	0x702484290fc0570f
 	.byte	0x1,0x0,0x0,0xf,0x28,0x5
-	.reloc	.,R_X86_64_PC32,.Lin.LCPI163_0-4
+	.reloc	.,R_X86_64_PC32,.Lin.LCPI164_0-4
 	.byte	0x0,0x0,0x0,0x0
 	.quad	0x2502484290f,0x480a750104247c80
 	.byte	0x8b,0x7c,0x24,0x58,0xe8
@@ -8979,7 +8989,7 @@ krl_lease_table_new:
 	.section	.rodata.named4,"a",@progbits
 	.balign	4
 .Lin.rodata.cst4:
-.Lin.LCPI175_1:
+.Lin.LCPI176_1:
 	.byte	0x3,0x0,0x0,0x0
 .Lin.Lstatic.8:
 	.byte	0x0,0x1,0x2,0x3
@@ -9001,7 +9011,7 @@ krl_client_tick:
 	.quad	0x578b49502444290f,0xc0854820478b4918,0xf410000024e840f,0xf302444290f0e10
 	.quad	0x2444c74820244429,0x100ff30000000040
 	.byte	0x15
-	.reloc	.,R_X86_64_PC32,.Lin.LCPI175_1-4
+	.reloc	.,R_X86_64_PC32,.Lin.LCPI176_1-4
 	.byte	0x0,0x0,0x0,0x0
 	.quad	0xb60f40c93103b640,0x107389480b110ff6,0x2043894818538948,0x384b89482853110f
 	.quad	0x24448b484043110f,0x44280f7043894840,0xf30244c280f2024,0x415043110f604b11
@@ -9502,6 +9512,19 @@ krl_reader_scan:
 	.byte	0x0,0x0,0x0,0x0
 	.quad	0xb8c308c48348c089
 	.byte	0x3,0x0,0x0,0x0,0x31,0xd2,0xc3
+	.section	.text.krl_reader_scan_leased,"ax",@progbits
+	.balign	16
+.Lin.text.krl_reader_scan_leased:
+	.globl	krl_reader_scan_leased
+	.type	krl_reader_scan_leased,@function
+	.size	krl_reader_scan_leased,79
+krl_reader_scan_leased:
+	.quad	0x75013e80fb894853,0x940fc0854dc03125,0x48c0014c0ce0c1c0,0x8948d68948087e8b
+	.quad	0xe8c8894dc18948ca
+	.reloc	.,R_X86_64_PLT32,.Lin.text.krl_embed.client_calls.scan-4
+	.byte	0x0,0x0,0x0,0x0
+	.quad	0x3100000003b807eb,0x443c70389d2,0xc748085389480000,0x8948000000011043
+	.byte	0xd8,0x5b,0xc3
 	.section	.text.krl_server_open,"ax",@progbits
 	.balign	16
 .Lin.text.krl_server_open:

@@ -217,7 +217,7 @@ left within --wait seconds, it names them and takes its first step back: the map
 before, but its version is greater by two, and nothing has changed.")]
     Reshard {
         #[command(subcommand)]
-        change: LiveChange,
+        change: Box<LiveChange>,
     },
     /// Put the map of a table into etcd or PostgreSQL, or follow it from there
     #[command(long_about = "\

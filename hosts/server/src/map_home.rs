@@ -56,7 +56,7 @@ pub enum Home {
 /// The map that a server watches.
 pub enum WatchedMap {
     File(PathBuf),
-    AtHome(Home),
+    AtHome(Box<Home>),
 }
 
 impl MapCommand {
@@ -186,7 +186,7 @@ impl WatchedMap {
     pub fn open(place: &StorePlace, credentials: &Credentials) -> Done<WatchedMap> {
         Ok(match place {
             StorePlace::File(path) => WatchedMap::File(path.clone()),
-            home => WatchedMap::AtHome(Home::open(home, credentials)?),
+            home => WatchedMap::AtHome(Box::new(Home::open(home, credentials)?)),
         })
     }
 

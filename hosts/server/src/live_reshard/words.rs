@@ -66,7 +66,7 @@ pub struct LiveOptions {
     #[arg(long, value_name = "FILE")]
     pub map: PathBuf,
     /// A command that copies the map to other machines. It is run after each change of the file,
-    /// whose name is in KRL_MAP
+    /// whose name is in `KRL_MAP`
     #[arg(long, value_name = "COMMAND")]
     pub publish: Option<String>,
     /// The status port of a server whose shard changes. A merge has two

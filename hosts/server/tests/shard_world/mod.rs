@@ -294,7 +294,9 @@ impl<'e> World<'e> {
 
     pub fn stop_all(&mut self) {
         let names: Vec<String> = self.servers.iter().map(|(name, _)| name.clone()).collect();
-        names.iter().for_each(|name| self.stop(name));
+        for name in names {
+            self.stop(&name);
+        }
     }
 }
 

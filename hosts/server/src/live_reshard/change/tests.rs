@@ -106,7 +106,9 @@ impl Store for Opened {
             return Err(StoreError::Deposed("another one has the store".into()));
         }
         Change::judge_shards(kept.snapshot.shard, changes).map_err(StoreError::failed)?;
-        changes.iter().for_each(|change| kept.snapshot.apply(change));
+        for change in changes {
+            kept.snapshot.apply(change);
+        }
         match kept.starts.last_mut() {
             Some(last) if !matches!(changes[0], Change::Started { .. }) => last.commits += 1,
             _ => kept.starts.push(Mark { start: next, commits: 1 }),
