@@ -220,7 +220,7 @@ mod tests {
         let part = question.as_text(&part);
         let notes = part.strip_prefix(whole).unwrap();
         assert!(notes.contains("not of one moment\n"), "{notes}");
-        assert!(notes.ends_with("there are more from 7 on: ask for 7 to 20 next\n"), "{notes}");
+        assert!(notes.ends_with("there are more from 7 on: ask for 7 to 20\n"), "{notes}");
     }
 
     #[test]

@@ -160,6 +160,6 @@ fn a_large_table_is_shown_in_pages_and_nobody_waits_for_that() {
     let note = output.lines().last().unwrap();
     let begin = note.strip_prefix("there are more from ").expect(note);
     let (begin, rest) = begin.split_once(" on: ask for ").expect(note);
-    assert_eq!(rest, format!("{begin} to 200 next"));
+    assert_eq!(rest, format!("{begin} to 200"));
     assert!(matches!(begin, "99" | "100"), "{note}");
 }
