@@ -96,7 +96,7 @@ fn a_server_reports_each_event_once() {
     stranger.write_all(&[1, 0, 0, 0, 0, 0, 0, 0, 99]).unwrap();
     // It is closed, perhaps by a reset.
     let _ = stranger.read_to_end(&mut Vec::new());
-    lines.expect(1, &["WARN", "no message", "length=1"]);
+    lines.expect(1, &["WARN", "not a message", "length=1"]);
     let mut old = TcpStream::connect(server.address().to_string()).unwrap();
     old.write_all(&hello).unwrap();
     let _ = old.read_to_end(&mut Vec::new());
