@@ -23,6 +23,10 @@ impl FollowedMap {
     }
 
     /// Where the keys of a server are, of which the reader knows by its map.
+    #[cfg_attr(
+        not(feature = "map-file"),
+        allow(clippy::unused_self, reason = "it follows no map then")
+    )]
     pub fn standing(&mut self) -> Standing {
         #[cfg(feature = "map-file")]
         if let Some((file, now)) = &mut self.file {
