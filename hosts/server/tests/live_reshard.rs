@@ -9,6 +9,7 @@ use krl_testing::database::Database;
 use shard_world::{Engine, World, refused, run};
 use std::collections::BTreeSet;
 use std::fs;
+use std::os::unix::process::ExitStatusExt;
 use std::process::{Child, Command, Stdio};
 use std::sync::atomic::{AtomicBool, Ordering};
 use std::thread;
@@ -244,6 +245,8 @@ fn an_earlier_new_store_that_was_not_used_is_set_aside() {
     assert!(why.contains("has shard 1 in the map"), "{why}");
 }
 
+const SIGKILL: i32 = 9;
+
 /// Before what a command is killed.
 const CHANGE_OF_A_FILE: &str = "KILL_BEFORE_CHANGE";
 const MESSAGE: &str = "KILL_BEFORE_SEND";
@@ -267,7 +270,10 @@ fn killed_at_some_points(engine: &Engine, before: &str, step: usize, change: Cha
         let client = world.join(1);
         let mut interrupted = change(&mut world);
         interrupted.env("LD_PRELOAD", &killer).env(before, count.to_string());
-        let is_done = interrupted.output().unwrap().status.success();
+        let interrupted = interrupted.output().unwrap();
+        let is_done = interrupted.status.success();
+        let is_killed = interrupted.status.signal() == Some(SIGKILL);
+        assert!(is_done || is_killed, "before {count}: {}", errors(&interrupted));
         for name in ["a", "b"] {
             let command = world.start_command(name);
             // A store that is served or sealed is refused.
@@ -303,7 +309,7 @@ fn a_move_that_is_killed_is_repeated() {
 #[test]
 fn a_change_that_is_killed_is_repeated_over_postgresql() {
     let Some(engine) = postgres() else { return };
-    for (change, step) in [(SPLIT, 31), (MERGE, 47), (MOVE, 29)] {
+    for (change, step) in [(SPLIT, 7), (MERGE, 11), (MOVE, 7)] {
         killed_at_some_points(&engine, MESSAGE, step, change);
     }
 }
@@ -311,7 +317,7 @@ fn a_change_that_is_killed_is_repeated_over_postgresql() {
 #[test]
 fn a_change_that_is_killed_is_repeated_over_etcd() {
     let Some(engine) = etcd() else { return };
-    for (change, step) in [(SPLIT, 11), (MERGE, 17), (MOVE, 13)] {
+    for (change, step) in [(SPLIT, 173), (MERGE, 283), (MOVE, 179)] {
         killed_at_some_points(&engine, MESSAGE, step, change);
     }
 }
