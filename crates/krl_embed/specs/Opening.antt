@@ -14,7 +14,6 @@ use Rattle.krl_durable.specs.InitialEntries.{Refuses, AreGood}
 use Rattle.krl_durable.specs.Writes.{IsRoom, IsReach}
 use Rattle.krl_client.specs.Clients.{begun}
 use Rattle.krl_client.specs.Ticks.{says_hello}
-use Rattle.krl_client.specs.Fields.{KeptClient}
 use Rattle.krl_client.specs.Fields as clients
 use Rattle.krl_server.specs.StateMeaning as servers
 use Rattle.krl_server.specs.Steps.{start}

@@ -1,5 +1,5 @@
 //! Starting a server on what was kept.
-ghost use Rattle.std.specs.Prelude.{◌≡◌, ℕ, List, true, Some, IfOk, OnOk, IfErr, map};
+ghost use Rattle.std.specs.Prelude.{◌≡◌, true, Some, IfOk, OnOk, IfErr, map};
 ghost use Rattle.krl_embed.specs.declared.records.RecordRow.{RecordRow};
 ghost use Rattle.krl_embed.specs.declared.rows.Row.{Row};
 ghost use Rattle.std.specs.List.{AllByRecursion};

@@ -82,7 +82,10 @@ pub fn run(folder: &Path, program: &Path) -> Found {
     let [lower, upper, other] = works;
     for Made { name, before, begun, ended, after } in changes? {
         let away = longest_wait(lower.iter().chain(&upper), begun, ended);
-        println!("{name}: {:.2} s; no call was answered for {:.2} s", seconds(ended - begun), away);
+        println!(
+            "{name}: {:.2} s; a thread there had no answer for {away:.2} s",
+            seconds(ended - begun)
+        );
         let times = [("before", before, begun), ("while", begun, ended), ("after", ended, after)];
         for (when, from, to) in times {
             println!("    {when}: at the other shard {}", latencies(&other, from, to));

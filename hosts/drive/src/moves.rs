@@ -24,6 +24,10 @@ type Done<T = ()> = Result<T, Box<dyn Error>>;
 /// command is killed and the machine is busy.
 const TIMEOUT: Duration = Duration::from_secs(90);
 
+/// A dead client delays a change for so long, and a quarter more. On a busy machine a client may not run
+/// for some seconds, and is not to lose its lease again and again.
+const LEASE: &str = "5s";
+
 /// How often a command is repeated at most.
 const TRIES: u32 = 4;
 
@@ -31,7 +35,7 @@ const TRIES: u32 = 4;
 const STAYS: u64 = 20;
 
 /// At one of so many changes a client has just died.
-const DIES: u64 = 5;
+const DIES: u64 = 10;
 
 /// How many changes a run comes to at least.
 const LEAST_CHANGES: u64 = 4;
@@ -64,7 +68,7 @@ struct Changes<'p> {
 
 pub fn run(folder: &Path, seconds: u64, kills: u64, program: &Path) -> Found {
     let mut changes = Changes {
-        table: Table::new(folder, program, "2s")?,
+        table: Table::new(folder, program, LEASE)?,
         made: 0,
         follower: None,
         died: 0,

@@ -49,14 +49,14 @@ pub enum MapCommand {
 
 /// Where a map is at home.
 pub enum Home {
-    Etcd(EtcdMap),
-    Postgres(PostgresMap),
+    Etcd(Box<EtcdMap>),
+    Postgres(Box<PostgresMap>),
 }
 
 /// The map that a server watches.
 pub enum WatchedMap {
     File(PathBuf),
-    AtHome(Box<Home>),
+    AtHome(Home),
 }
 
 impl MapCommand {
@@ -149,9 +149,9 @@ impl Home {
                 let why = "such a map is at home in etcd or PostgreSQL";
                 return Err(format!("{} is a file: {why}", path.display()).into());
             }
-            StorePlace::Etcd(address) => Home::Etcd(EtcdMap::open(address, credentials)?),
+            StorePlace::Etcd(address) => Home::Etcd(EtcdMap::open(address, credentials)?.into()),
             StorePlace::Postgres(address) => {
-                Home::Postgres(PostgresMap::open(address, credentials.user.as_ref())?)
+                Home::Postgres(PostgresMap::open(address, credentials.user.as_ref())?.into())
             }
         })
     }
@@ -186,7 +186,7 @@ impl WatchedMap {
     pub fn open(place: &StorePlace, credentials: &Credentials) -> Done<WatchedMap> {
         Ok(match place {
             StorePlace::File(path) => WatchedMap::File(path.clone()),
-            home => WatchedMap::AtHome(Box::new(Home::open(home, credentials)?)),
+            home => WatchedMap::AtHome(Home::open(home, credentials)?),
         })
     }
 

@@ -128,9 +128,14 @@ impl Connections {
         self.now
     }
 
-    /// Whether a connection may have something to be judged or read.
+    /// Whether a connection may have something to be judged or read that is not known as a reader's.
     pub fn are_busy(&self) -> bool {
-        !(self.ready.is_empty() && self.ready_readers.is_empty())
+        !self.ready.is_empty()
+    }
+
+    /// The same of those of readers.
+    pub fn are_readers_ready(&self) -> bool {
+        !self.ready_readers.is_empty()
     }
 
     /// How many connections of the line may have something.

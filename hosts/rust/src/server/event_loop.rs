@@ -191,7 +191,10 @@ impl EventLoop {
         } else {
             NUDGE
         };
-        self.takes_kept_in(self.turned).map_or(longest, |soon| longest.min(soon))
+        let takes_readers = self.connections.are_readers_ready();
+        let readers = takes_readers.then(|| self.reads.due_in(self.turned));
+        let soon = [self.takes_kept_in(self.turned), readers];
+        soon.into_iter().flatten().fold(longest, Duration::min)
     }
 
     /// The turn that began then has ended.

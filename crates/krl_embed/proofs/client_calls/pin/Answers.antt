@@ -1,4 +1,4 @@
-use Rattle.std.proofs.Common.{◌≡◌, ◌∙◌, ℕ, Some, None, ap, sym, refl}
+use Rattle.std.proofs.Common.{◌∙◌, ℕ, Some, ap, sym, refl}
 use Rattle.krl_modes.specs.Spans.{Bounds}
 use Rattle.krl_client.specs.Commands.{pinned}
 use Rattle.krl_client.specs.Fields.{meaning}

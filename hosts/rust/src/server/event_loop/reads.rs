@@ -14,17 +14,22 @@ use crate::wire::incoming::Incoming;
 use crate::wire::read_frame::{PAGE, ReadRequest, RowPage};
 use std::collections::BTreeMap;
 use std::mem;
-use std::time::Instant;
+use std::time::{Duration, Instant};
 
 /// Next to clients, readers get one of so many parts of the server's time.
-const PARTS: u32 = 3;
+const PARTS: u32 = 4;
+
+/// Clients want no time if none has sent anything for so long.
+const QUIET: Duration = Duration::from_millis(1);
 
 /// The questions that wait for a commit, at most one of each connection, and when readers may ask.
 #[derive(Debug, Default)]
 pub(super) struct Reads {
     waiting: BTreeMap<u64, ReadRequest>,
     /// When readers have had no more than their part of the time.
-    due_at: Option<Instant>,
+    even_at: Option<Instant>,
+    /// Until then clients are about to send more.
+    busy_until: Option<Instant>,
 }
 
 impl Reads {
@@ -38,17 +43,31 @@ impl Reads {
         self.waiting.insert(connection, request);
     }
 
-    /// Whether a turn takes something from readers that has judged so many messages of clients: next
-    /// to clients they get a part of the server's time, and all that clients leave. A call of a
-    /// client may take many turns.
-    pub fn are_due(&self, messages: usize, now: Instant) -> bool {
-        messages == 0 || self.due_at.is_none_or(|due_at| now >= due_at)
+    /// A turn has judged messages of clients.
+    pub fn note_clients(&mut self, now: Instant) {
+        self.busy_until = Some(now + QUIET);
     }
 
     /// A turn has taken something from readers since `began`, and has ended. What it did for clients
     /// meanwhile counts as done for readers.
     pub fn answered(&mut self, began: Instant, ended: Instant) {
-        self.due_at = Some(ended + (PARTS - 1) * ended.saturating_duration_since(began));
+        self.even_at = Some(ended + (PARTS - 1) * ended.saturating_duration_since(began));
+    }
+
+    /// When a turn takes something from readers: next to clients they get a part of the server's
+    /// time, and otherwise all of it. A call of a client may take many turns, and between them its
+    /// host has to be woken, which may share its processors with those of readers.
+    fn due_at(&self) -> Option<Instant> {
+        self.even_at.min(self.busy_until)
+    }
+
+    pub fn are_due(&self, now: Instant) -> bool {
+        self.due_in(now).is_zero()
+    }
+
+    /// How soon a turn takes something from readers.
+    pub fn due_in(&self, now: Instant) -> Duration {
+        self.due_at().map_or(Duration::ZERO, |due_at| due_at.saturating_duration_since(now))
     }
 }
 
@@ -111,7 +130,6 @@ impl EventLoop {
 #[cfg(test)]
 mod tests {
     use super::*;
-    use std::time::Duration;
 
     fn request(number: u64) -> ReadRequest {
         ReadRequest { number, lo: 0, hi: 9 }
@@ -130,14 +148,17 @@ mod tests {
     }
 
     #[test]
-    fn next_to_clients_readers_get_a_third_of_the_time() {
-        const MS: Duration = Duration::from_millis(1);
+    fn next_to_clients_readers_get_a_part_of_the_time() {
         let (mut reads, began) = (Reads::default(), Instant::now());
-        assert!(reads.are_due(1, began));
-        let ended = began + 2 * MS;
+        reads.note_clients(began);
+        assert!(reads.are_due(began), "they have had nothing yet");
+        let took = QUIET / 10;
+        let ended = began + took;
         reads.answered(began, ended);
-        let is_due = |after| [0, 1].map(|messages| reads.are_due(messages, ended + after));
-        assert_eq!(is_due(3 * MS), [true, false]);
-        assert_eq!(is_due(4 * MS), [true, true]);
+        reads.note_clients(ended);
+        assert_eq!(reads.due_in(ended), 3 * took);
+        assert!(reads.are_due(ended + 3 * took) && !reads.are_due(ended + 2 * took));
+        reads.answered(began, ended + 1000 * QUIET);
+        assert_eq!(reads.due_in(ended), QUIET, "clients may want no more");
     }
 }

@@ -97,7 +97,10 @@ impl Turn {
             self.judged += 1;
         }
         let now = around.now().monotonic;
-        if !events.reads().are_due(self.judged, now) {
+        if self.judged > 0 {
+            events.reads().note_clients(now);
+        }
+        if !events.reads().are_due(now) {
             return Ok(());
         }
         while self.taken < MAX_OF_READERS && judge_one(Line::Readers, events, around)? {

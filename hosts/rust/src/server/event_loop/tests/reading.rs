@@ -73,14 +73,23 @@ fn ready(serving: &ServerThread<Watching>) -> [usize; 2] {
     [Line::Clients, Line::Readers].map(|line| serving.events.connections.count_ready(line))
 }
 
+/// Takes turns until readers were taken, and returns how many are left.
+fn left_after_some(serving: &mut ServerThread<Watching>) -> usize {
+    let ([_, before], end) = (ready(serving), Instant::now() + Duration::from_secs(60));
+    while ready(serving) == [0, before] {
+        assert!(Instant::now() < end, "no reader is taken");
+        assert!(serving.turn().unwrap());
+    }
+    ready(serving)[1]
+}
+
 #[test]
 fn a_turn_takes_some_readers_after_all_clients() {
     let (mut serving, _peer, _readers) = busy_loop();
-    for (taken, left) in [(4, MAX_OF_READERS), (4, 0)] {
-        assert!(serving.turn().unwrap());
-        assert_eq!((serving.events.status.taken, ready(&serving)), (taken, [0, left]));
-        assert_eq!(serving.events.connections.are_busy(), left > 0, "the next turn begins at once");
-    }
+    assert!(serving.turn().unwrap());
+    assert_eq!((serving.events.status.taken, ready(&serving)), (4, [0, MAX_OF_READERS]));
+    assert!(serving.events.longest_wait() <= Duration::from_millis(1), "the next turn begins soon");
+    assert_eq!(left_after_some(&mut serving), 0);
 }
 
 #[test]
@@ -88,12 +97,14 @@ fn a_turn_takes_no_readers_next_to_clients_that_have_had_less_time() {
     let (mut serving, _peer, _readers) = busy_loop();
     let now = Instant::now();
     serving.events.reads().answered(now, now + Duration::from_secs(3600));
-    for (taken, left) in [(4, READERS), (4, READERS - MAX_OF_READERS)] {
-        assert!(serving.turn().unwrap());
-        assert_eq!((serving.events.status.taken, ready(&serving)), (taken, [0, left]));
-    }
-    // Now the turn that took them has told how long they took.
-    assert!(serving.events.reads().are_due(1, Instant::now() + Duration::from_secs(600)));
+    assert!(serving.turn().unwrap());
+    assert_eq!((serving.events.status.taken, ready(&serving)), (4, [0, READERS]));
+    // Then no client sends anything.
+    assert_eq!(left_after_some(&mut serving), READERS - MAX_OF_READERS);
+    // The turn that took them has told how long that took.
+    let (reads, later) = (serving.events.reads(), now + Duration::from_secs(600));
+    reads.note_clients(later);
+    assert!(reads.are_due(later));
 }
 
 #[test]
