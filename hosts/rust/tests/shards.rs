@@ -309,40 +309,52 @@ fn a_call_waits_for_a_time_of_its_own() {
     assert_eq!(other.within(LONG).forget(..), Ok(()));
 }
 
+/// What a client has pinned gives way after half a second. A write that had to wait for that takes
+/// longer than this.
+const AT_ONCE: Duration = Duration::from_millis(450);
+
+/// How long a write of the second part takes while a client waits for the first one in this call.
+fn time_of_a_write(world: &World, call: fn(&Client) -> Result<Vec<Row>, Error>) -> Duration {
+    let client = world.join(1);
+    // It has the second part, and another client has pinned the first one to write it.
+    client.read(BOUND..400).unwrap();
+    let (left, right) = (world.join_one(0, 2), world.join_one(1, 3));
+    let held = left.pin(0..50).unwrap();
+    assert_eq!(left.put(10, Value::from(1)), Ok(Outcome::Applied));
+    let taken = thread::scope(|scope| {
+        let waiting = scope.spawn(|| call(&client));
+        let server = &world.servers[0];
+        let waits = || server.status().waits.iter().any(|wait| wait.client == 1);
+        assert!(is_so_soon(waits), "nobody waits");
+        // Time for a read to begin to take its parts.
+        thread::sleep(SHORT);
+        let begun = Instant::now();
+        assert_eq!(right.put(300, Value::from(2)), Ok(Outcome::Applied));
+        let taken = begun.elapsed();
+        assert!(!waiting.is_finished());
+        drop(held);
+        assert_eq!(waiting.join().unwrap(), Ok(vec![row(10, 1), row(300, 2)]));
+        taken
+    });
+    for client in [left, right, client] {
+        client.leave().unwrap();
+    }
+    taken
+}
+
 /// A client that waits for a point has pinned nothing from there on: so no client that has that
-/// point waits for this one.
+/// point waits for this one. On a busy machine some writes take long by themselves, and not all.
 #[test]
 fn a_client_that_waits_keeps_nothing_that_comes_after() {
     let world = World::new("waits");
     world.insert_rows([10, 300]);
-    for calls in [
+    for call in [
         |client: &Client| client.read(0..400),
         |client: &Client| client.pin_for_read(0..400).map(|(rows, _)| rows),
         |client: &Client| client.pin_for_update(0..400).map(|(rows, _)| rows),
         |client: &Client| client.pin(0..400).and_then(|_| client.read(0..400)),
     ] {
-        let client = world.join(1);
-        // It has the second part, and another client has pinned the first one to write it.
-        client.read(BOUND..400).unwrap();
-        let (left, right) = (world.join_one(0, 2), world.join_one(1, 3));
-        let held = left.pin(0..50).unwrap();
-        assert_eq!(left.put(10, Value::from(1)), Ok(Outcome::Applied));
-        thread::scope(|scope| {
-            let waiting = scope.spawn(|| calls(&client));
-            let server = &world.servers[0];
-            let waits = || server.status().waits.iter().any(|wait| wait.client == 1);
-            assert!(is_so_soon(waits), "nobody waits");
-            // Time for a read to begin to take its parts.
-            thread::sleep(SHORT);
-            assert_eq!(right.put(300, Value::from(2)), Ok(Outcome::Applied));
-            assert!(!waiting.is_finished());
-            drop(held);
-            assert_eq!(waiting.join().unwrap(), Ok(vec![row(10, 1), row(300, 2)]));
-        });
-        for client in [left, right] {
-            client.leave().unwrap();
-        }
-        client.leave().unwrap();
+        assert!((0..6).any(|_| time_of_a_write(&world, call) < AT_ONCE));
     }
 }
 
