@@ -110,7 +110,7 @@ enum krl_code {
     KRL_WRITING = 27,
     /* The client has eight pins. */
     KRL_TOO_MANY_PINS = 28,
-    /* An incarnation of 0, which no server hears, or one that is not greater than the registered one. */
+    /* An incarnation of 0, which no server takes, or one that is not greater than the registered one. */
     KRL_BAD_INCARNATION = 29,
     /* Bounds that make no shards: there are more than 63, or one is not above the one before it, or is 0 or above
      * KRL_END. */
