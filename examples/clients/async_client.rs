@@ -8,7 +8,10 @@ async fn main() -> Result<(), Box<dyn std::error::Error>> {
     println!("client {}", client.client().number());
 
     let rows = client.read(15..16).await?; // one key is a range
-    println!("get: {}", rows.first().map_or("no row".into(), |row| text(row.value)));
+    println!(
+        "get: {}",
+        rows.first().map_or("no row".into(), |row| text(row.value))
+    );
     show("read", &client.read(10..20).await?); // asks the server, and keeps the range
     if let Some(rows) = client.client().cached(10..20)? {
         show("cached", &rows); // no message, and nothing to await
@@ -29,7 +32,10 @@ async fn main() -> Result<(), Box<dyn std::error::Error>> {
     let mut changes = client.changes(10..20)?; // the rows now, and again after each change
     show("now", &changes.next().await.ok_or("the client has left")??);
     assert_eq!(client.delete(15).await?, Outcome::Applied);
-    show("changed", &changes.next().await.ok_or("the client has left")??);
+    show(
+        "changed",
+        &changes.next().await.ok_or("the client has left")??,
+    );
 
     let nobody: Servers = "127.0.0.1:1".parse()?;
     if let Err(error) = connect(nobody).await {
@@ -51,5 +57,12 @@ fn text(value: Value) -> String {
 fn show(what: &str, rows: &[Row]) {
     let line = |row: &Row| format!("{what}: {}={}", row.key, text(row.value));
     let lines: Vec<String> = rows.iter().map(line).collect();
-    println!("{}", if rows.is_empty() { format!("{what}: no row") } else { lines.join("\n") });
+    println!(
+        "{}",
+        if rows.is_empty() {
+            format!("{what}: no row")
+        } else {
+            lines.join("\n")
+        }
+    );
 }

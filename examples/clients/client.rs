@@ -44,5 +44,12 @@ fn text(value: Value) -> String {
 fn show(what: &str, rows: &[Row]) {
     let line = |row: &Row| format!("{what}: {}={}", row.key, text(row.value));
     let lines: Vec<String> = rows.iter().map(line).collect();
-    println!("{}", if rows.is_empty() { format!("{what}: no row") } else { lines.join("\n") });
+    println!(
+        "{}",
+        if rows.is_empty() {
+            format!("{what}: no row")
+        } else {
+            lines.join("\n")
+        }
+    );
 }

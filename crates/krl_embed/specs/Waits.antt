@@ -1,5 +1,5 @@
 -- Who waits at a server, for whom, and what clients hold, as C sees it.
-use Rattle.std.specs.Prelude.{◌≡◌, ◌⊎◌, ◌≤◌, ◌<◌, ℕ, List, Option, Some, None}
+use Rattle.std.specs.Prelude.{◌≡◌, ◌⊎◌, ◌≤◌, ◌<◌, ℕ, List, Option, Some, None, if◌then◌else◌}
 use Rattle.krl_modes.specs.declared.limits.TheConstants.{MAX_CLIENTS}
 use Rattle.krl_queue.specs.declared.waiter.Waiter.{Waiter}
 use Rattle.krl_messages.specs.declared.holding.Holding.{Holding}
@@ -8,12 +8,15 @@ use Rattle.krl_wire.specs.Spelling.{mode_tag}
 use Rattle.krl_server.specs.declared.state.State.{State}
 use Rattle.krl_server.specs.StateMeaning.{meaning}
 use Rattle.krl_server.specs.Servers.{Server}
-use Rattle.krl_server.specs.Waits.{waiter_of, waited_for, HoldsNoMore, IsNextHolding}
+use Rattle.krl_server.specs.Waits.{waiter_of, waited_for, HoldsNoMore, IsNextHolding, may_read}
+use Rattle.krl_durable.specs.Index.{slot_of}
+use Rattle.krl_modes.specs.declared.point.TheConstants.{END}
 use Rattle.krl_embed.specs.declared.code.Code.{Code}
 use Rattle.krl_embed.specs.declared.code.Code.TheVariants as code
 use Rattle.krl_embed.specs.declared.reply.Reply.{Reply}
 use Rattle.krl_embed.specs.declared.server_shows.Waiting.{Waiting}
 use Rattle.krl_embed.specs.declared.server_shows.HeldSlot.{HeldSlot}
+use Rattle.krl_embed.specs.declared.server_shows.ReadSlot.{ReadSlot}
 use Rattle.krl_embed.specs.Replies.{code_of}
 use Rattle.krl_embed.specs.Endpoints.{IsCode, IsUntold}
 use Rattle.krl_embed.specs.Shown.{Copies}
@@ -65,3 +68,22 @@ ShowsNext s c from r =
 abbrev pub TellsNext : ℕ → ℕ → State → HeldSlot → Type 0
 TellsNext c from s r =
     OfNumber IsNoHolding c (λ r. IsCode code.Done r.reply × ShowsNext (meaning s) c from r) r
+
+-- the slot of this point, and whether the client would get it at once to read it
+abbrev pub ShowsReadSlot : Server → ℕ → ℕ → ReadSlot → Type 0
+ShowsReadSlot s c p r =
+    (r.slot ≡ slot_of s.durable.index p)
+    × (r.may_read ≡ (if may_read s c (slot_of s.durable.index p) then 1 else 0))
+
+abbrev pub IsNoReadSlot : Code → ReadSlot → Type 0
+IsNoReadSlot c r = IsCode c r.reply × (r.slot ≡ 0) × (r.may_read ≡ 0)
+
+-- a point above END is refused
+pub record OfPoint (p : ℕ) (Tells : ReadSlot → Type 0) (r : ReadSlot) : Type 0 where
+  pub point : p ≤ END → Tells r
+  pub above : END < p → IsNoReadSlot code.BadPoint r
+
+abbrev pub TellsReadSlot : ℕ → ℕ → State → ReadSlot → Type 0
+TellsReadSlot c p s r =
+    OfNumber IsNoReadSlot c
+    (OfPoint p (λ r. IsCode code.Done r.reply × ShowsReadSlot (meaning s) c p r)) r

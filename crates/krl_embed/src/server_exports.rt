@@ -21,7 +21,7 @@ use crate::records::RecordRow;
 use crate::reply::Reply;
 use crate::rows::Row;
 use crate::server_calls::{self, Recorded, ServerState, Stepped};
-use crate::server_shows::{self, HeldSlot, Waiting};
+use crate::server_shows::{self, HeldSlot, ReadSlot, Waiting};
 use std::alloc::Global;
 
 /// Starts a server on what was kept, with room for so many entries and grants of up to so many
@@ -226,6 +226,27 @@ pub extern "C" fn krl_server_next_held(
     let held = server_shows::next_held(&endpoint, client, from);
     put(handle, endpoint);
     held
+}
+
+/// The slot of a point, and whether a client would get it at once to read it.
+#[unsafe(no_mangle)]
+pub extern "C" fn krl_server_read_slot(
+    alloc: Global,
+    handle: &mut Handle,
+    client: u64,
+    point: u64,
+) -> ReadSlot
+    ensures unchanged { handle.new.owned.value ≡ handle.old.owned.value }
+    ensures answer { Shows waits.IsNoReadSlot
+        (OfServer waits.IsNoReadSlot (waits.TellsReadSlot client point))
+        handle.old.owned.value result }
+{
+    let Some(endpoint) = take(alloc, handle) else {
+        return ReadSlot::blank(Code::Closed);
+    };
+    let slot = server_shows::read_slot(&endpoint, client, point);
+    put(handle, endpoint);
+    slot
 }
 
 /// The entries of the server's index from lo on below hi, as many as there is room for. They may be

@@ -1,4 +1,5 @@
 //! Who waits at a server, for whom, and what clients hold, as C sees it.
+ghost use Rattle.std.specs.Prelude.{◌≡◌, if◌then◌else◌};
 ghost use Rattle.krl_embed.specs.declared.code.Code.TheVariants as code;
 ghost use Rattle.krl_embed.specs.Endpoints.{IsCode, IsUntold, OfServer};
 ghost use Rattle.krl_embed.specs.Waits as waits;
@@ -9,7 +10,7 @@ use crate::endpoint::{Endpoint, Role};
 use crate::reply::Reply;
 use crate::server_calls::copy_clients;
 use krl_messages::Holding;
-use krl_modes::MAX_CLIENTS;
+use krl_modes::{END, MAX_CLIENTS, Point};
 use krl_queue::Waiter;
 use krl_server::Server;
 
@@ -97,6 +98,28 @@ impl HeldSlot {
     }
 }
 
+/// The slot of a point, and whether a client would get it at once to read it.
+#[repr(C)]
+#[derive(Clone, Copy)]
+pub struct ReadSlot {
+    reply: Reply,
+    slot: u64,
+    may_read: u64,
+}
+
+impl ReadSlot {
+    /// No slot, by this code.
+    pub(crate) fn blank(code: Code) -> ReadSlot
+        ensures { waits.IsNoReadSlot code result }
+    {
+        ReadSlot {
+            reply: Reply::of(code),
+            slot: 0,
+            may_read: 0,
+        }
+    }
+}
+
 /// How the client waits at the server.
 pub(crate) fn waiter(endpoint: &Endpoint, client: u64) -> Waiting
     ensures { OfServer IsNoWait (waits.TellsWait client) endpoint.now.role result }
@@ -158,5 +181,43 @@ pub(crate) fn next_held(endpoint: &Endpoint, client: u64, from: u64) -> HeldSlot
     match &endpoint.role {
         Role::Server(server) => next_of(server, client, from),
         Role::Client(_) | Role::Left(_) => HeldSlot::blank(Code::NoServer),
+    }
+}
+
+fn flag(is_so: bool) -> u64
+    ensures { result ≡ (if is_so then 1 else 0) }
+{
+    if is_so { 1 } else { 0 }
+}
+
+fn read_slot_of(server: &Server, client: u64, point: u64) -> ReadSlot
+    ensures { waits.TellsReadSlot client point server.now result }
+{
+    if client >= MAX_CLIENTS as u64 {
+        return ReadSlot::blank(Code::BadClient);
+    }
+    if point > END {
+        return ReadSlot::blank(Code::BadPoint);
+    }
+    let durable = server.durable();
+    // By its clause `kept` the prover knows that no key is END or more, so no slot is above END.
+    let _kept = durable.epoch();
+    let slot = durable.slot_of(point);
+    let may_read = server.may_read(client, Point::new(slot).unwrap());
+    ReadSlot {
+        reply: Reply::of(Code::Done),
+        slot,
+        may_read: flag(may_read),
+    }
+}
+
+/// The slot of this point, and whether the client would get it at once to read it.
+pub(crate) fn read_slot(endpoint: &Endpoint, client: u64, point: u64) -> ReadSlot
+    ensures { OfServer waits.IsNoReadSlot (waits.TellsReadSlot client point)
+        endpoint.now.role result }
+{
+    match &endpoint.role {
+        Role::Server(server) => read_slot_of(server, client, point),
+        Role::Client(_) | Role::Left(_) => ReadSlot::blank(Code::NoServer),
     }
 }

@@ -1,14 +1,16 @@
 -- Who waits for whom, and who holds what: what an operator sees of a server.
-use Rattle.std.specs.Prelude.{◌≡◌, ℕ, zero, suc, Bool, false, not, ◌||◌, List, [], ◌∷◌, Option, None, Some, if◌then◌else◌}
+use Rattle.std.specs.Prelude.{◌≡◌, ℕ, zero, suc, Bool, false, not, ◌||◌, ◌&&◌, List, [], ◌∷◌, Option, None, Some, if◌then◌else◌}
 use Rattle.krl_modes.specs.Constants.{max_clients}
+use Rattle.krl_modes.specs.declared.mode.Mode.TheVariants as mode
 use Rattle.krl_queue.specs.declared.waiter.Waiter.{Waiter}
 use Rattle.krl_queue.specs.Turns.{goes_before}
 use Rattle.krl_durable.specs.Index.{slot_of}
 use Rattle.krl_table.specs.Waiters as waiters
+use Rattle.krl_table.specs.Grants.{is_open_to}
 use Rattle.krl_table.specs.Holds.{AreHeld, IsNextHeld}
 use Rattle.krl_messages.specs.declared.holding.Holding.{Holding}
 use Rattle.krl_server.specs.Effects.{holding}
-use Rattle.krl_server.specs.Servers.{Server}
+use Rattle.krl_server.specs.Servers.{Server, is_recovering}
 use Rattle.krl_server.specs.Callbacks.{is_compatible}
 
 -- how the client waits
@@ -44,3 +46,12 @@ IsNextHolding s c from h = (n : ℕ) × IsNextHeld s.rows c from n × (h ≡ hol
 -- it holds no other mode than N from this point on
 abbrev pub HoldsNoMore : Server → ℕ → ℕ → Type 0
 HoldsNoMore s c from = AreHeld s.rows c from []
+
+-- as a client would ask for slot n to read it
+abbrev pub reader_of : ℕ → ℕ → Waiter
+reader_of c n = record { client = c; req = 0; point = n; hi = suc n; mode = mode.RangeSS }
+
+-- the client would get slot n at once to read it: the server serves, nobody waits there, and what all others hold there
+-- lets it be read
+abbrev pub may_read : Server → ℕ → ℕ → Bool
+may_read s c n = not (is_recovering s.missing) && is_open_to s.rows n (reader_of c n)

@@ -16,6 +16,7 @@ ghost use Rattle.krl_server.specs.CodeSteps.{IsStarted, IsNotStarted, HasStepped
 ghost use Rattle.krl_server.specs.Outputs.{may_change_durable, HasCallbacks, AnswersWrite};
 ghost use Rattle.krl_server.specs.Outputs.{PushesStand};
 ghost use Rattle.krl_server.specs.Waits.{waiter_of, waited_for, HoldsNoMore, IsNextHolding};
+ghost use Rattle.krl_server.specs.Waits.{may_read};
 ghost use Rattle.krl_table.specs.Holds.{HoldsAt};
 ghost use Rattle.krl_modes.specs.declared.limits.TheConstants.{MAX_CLIENTS};
 
@@ -29,7 +30,7 @@ use crate::state::State;
 use arrayvec::ArrayVec;
 use krl_durable::Durable;
 use krl_messages::{Holding, Items, ToClient, ToServer};
-use krl_modes::{END, MAX_CLIENTS};
+use krl_modes::{END, MAX_CLIENTS, Point};
 use krl_queue::Waiter;
 use krl_table::Table;
 use std::alloc::{AllocError, Global};
@@ -270,5 +271,15 @@ impl Server {
             (IsNextHolding (meaning self.now) client from) }
     {
         self.state.next_holding(client, from)
+    }
+
+    /// Whether the client would get the slot at once to read it: the server serves, nobody waits
+    /// there, and what all others hold there lets it be read. It takes no memory, and changes
+    /// nothing.
+    pub fn may_read(&self, client: u64, slot: Point) -> bool
+        requires { client < MAX_CLIENTS }
+        ensures { result ≡ may_read (meaning self.now) client slot }
+    {
+        self.state.may_read(client, slot)
     }
 }

@@ -4,16 +4,38 @@ ghost use Rattle.krl_server.specs.Callbacks.{is_compatible};
 ghost use Rattle.krl_server.specs.StateMeaning.{meaning};
 ghost use Rattle.krl_server.specs.FoundCases.{IsFormed};
 ghost use Rattle.krl_server.specs.Waits.{waiter_of, is_in_the_way, waits_for, waited_for};
-ghost use Rattle.krl_server.specs.Waits.{HoldsNoMore, IsNextHolding};
+ghost use Rattle.krl_server.specs.Waits.{HoldsNoMore, IsNextHolding, reader_of, may_read};
 ghost use Rattle.krl_modes.specs.declared.limits.TheConstants.{MAX_CLIENTS};
 
 use crate::state::State;
 use arrayvec::ArrayVec;
 use krl_messages::Holding;
-use krl_modes::MAX_CLIENTS;
+use krl_modes::{MAX_CLIENTS, Mode, Point};
 use krl_queue::Waiter;
 
+/// As the client would ask for the slot to read it.
+fn reader_of(client: u64, slot: Point) -> Waiter
+    ensures { result ≡ reader_of client slot }
+{
+    Waiter {
+        client,
+        req: 0,
+        point: slot,
+        hi: slot.get() + 1,
+        mode: Mode::RangeSS,
+    }
+}
+
 impl State {
+    /// Whether the client would get the slot at once to read it.
+    pub(crate) fn may_read(&self, client: u64, slot: Point) -> bool
+        requires { client < MAX_CLIENTS }
+        ensures { result ≡ may_read (meaning self.now) client slot }
+    {
+        let is_serving = !self.missing.is_recovering();
+        is_serving && self.table.is_open_to(slot.get(), &reader_of(client, slot))
+    }
+
     /// How the client waits.
     pub(crate) fn waiter_of(&self, client: u64) -> Option<Waiter>
         requires formed { IsFormed self.now }

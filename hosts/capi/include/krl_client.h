@@ -353,10 +353,10 @@ void krlc_free(krlc_client *client);
 KRLC_NODISCARD uint32_t krlc_set_timeout(krlc_client *client, uint64_t timeout_ms, krlc_error *error);
 
 /* From now on the client keeps what it reads until another client wants to write it. Otherwise, where others have
- * written more of its rows than its cache has answered scans, it gives back what it has just read or written: each read
- * there asks the server, also while that is down, and `krlc_cached` returns KRLC_MISS, until the client has tried again
- * after some hundred reads. What was pinned, or watched for changes, it keeps; and so does a client of a map. A tenure
- * counts as a scan. Call this to read while the server is down. Errors: KRLC_MISUSE. */
+ * written more of its rows than its cache has answered scans, it gives back what it has just written, and takes no lock
+ * to read: each read there asks the server, also while that is down, and `krlc_cached` returns KRLC_MISS, until the
+ * client has tried again after some hundred reads. What was pinned, or watched for changes, it keeps; and so does a
+ * client of a map. A tenure counts as a scan. Call this to read while the server is down. Errors: KRLC_MISUSE. */
 KRLC_NODISCARD uint32_t krlc_keep_all(krlc_client *client, krlc_error *error);
 
 /* From now on the client follows the file `map` of its options: it continues by each map that it finds there whose

@@ -270,8 +270,8 @@ class Client(_Writer):
     def keep_all(self) -> None:
         """From now on the client keeps what it reads until another client wants to write it.
         Otherwise, where others have written more of its rows than its cache has answered scans, it
-        gives back what it has just read: there each read asks the server, also while that is down,
-        and ``cached`` returns ``None``, until it has tried again after some hundred reads."""
+        takes no lock to read: there each read asks the server, also while that is down, and
+        ``cached`` returns ``None``, until it has tried again after some hundred reads."""
         call("keep_all", self._handle)
 
     def follow(self) -> None:

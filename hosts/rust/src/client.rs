@@ -576,10 +576,11 @@ impl Client {
     /// From now on the client keeps what it reads until another client wants to write it.
     ///
     /// Otherwise it keeps what it reads only where that pays. Where others have written more of its
-    /// rows than its cache has answered scans, it gives back what it has just read or written: there
-    /// each read asks the server, also while that is down, and [`Client::cached`] returns `None`,
-    /// until the client has tried again after some hundred reads. What was pinned, or watched for
-    /// changes, it keeps; and so does a client of a map. A [`Client::tenure`] counts as a scan.
+    /// rows than its cache has answered scans, it gives back what it has just written, and takes no
+    /// lock to read: there each read asks the server, also while that is down, and
+    /// [`Client::cached`] returns `None`, until the client has tried again after some hundred reads.
+    /// What was pinned, or watched for changes, it keeps; and so does a client of a map. A
+    /// [`Client::tenure`] counts as a scan.
     ///
     /// It is for callers that have to read while the server is down.
     pub fn keep_all(&self) {

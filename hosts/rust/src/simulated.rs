@@ -10,6 +10,7 @@ use crate::model::refusal::Refusal;
 use crate::net::connect_fault::Rejection;
 use crate::wire::host_frame::{self, FromClient, FromServer};
 use crate::wire::message::Message;
+use crate::wire::read_frame::{ReadRequest, RowPage};
 use std::io;
 
 /// What a frame is to an observer.
@@ -60,6 +61,12 @@ pub fn describe(frame: &[u8]) -> String {
             Answer::Granted(grant) => format!("Terms of {} ms", grant.length / 1_000_000),
             Answer::Ended { incarnation } => format!("Ended {incarnation}"),
         };
+    }
+    if let Some(ReadRequest { number, lo, hi }) = ReadRequest::read(frame) {
+        return format!("Read {number} of {lo}..{hi}");
+    }
+    if let Some(RowPage { number, next, rows }) = RowPage::read(frame) {
+        return format!("Rows {number} below {next}, of which there are {}", rows.len());
     }
     if let Some(FromClient::Hello(seen)) = FromClient::read(frame) {
         return seen.map_or("Host".into(), |seen| format!("Host, seen {:?}", seen.mark));

@@ -1,7 +1,7 @@
 //! Servers over a database of PostgreSQL. They start a server of it.
 mod common;
 
-use common::{Serving, errors, join, output_within_a_minute, program, run, text};
+use common::{Serving, errors, join, output_unless_it_serves, program, run, text};
 use krl::{Outcome, Value};
 use krl_testing::database::Database;
 use krl_testing::ports::free_address;
@@ -21,7 +21,7 @@ fn a_server_that_is_started_again_serves_what_was_written() {
     let Some(database) = Database::start() else { return };
     let folder = tempfile::tempdir().unwrap();
     let words = ["--listen", "127.0.0.1:0", "--status", "off"];
-    let refused = output_within_a_minute(over(&database).args(words));
+    let refused = output_unless_it_serves(over(&database).args(words));
     assert_eq!(refused.status.code(), Some(1));
     assert!(errors(&refused).contains(" holds nothing. "), "{}", errors(&refused));
     let schemas = database.connect().query("SELECT FROM pg_namespace WHERE nspname = 'krl'");

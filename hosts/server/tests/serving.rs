@@ -2,7 +2,7 @@
 mod common;
 
 use common::{
-    ServiceManager, Serving, errors, join, lock_file, output_within_a_minute, program,
+    ServiceManager, Serving, errors, join, lock_file, output_unless_it_serves, program,
     program_under_watchdog, run, text, until,
 };
 use krl::{Address, END, Outcome, Row, Snapshot, SqliteStore, Value};
@@ -448,7 +448,7 @@ fn a_store_that_holds_nothing_is_served_only_if_it_is_asked_for() {
         (&empty, "the file has 0 bytes"),
         (&bare, "holds nothing"),
     ] {
-        let refused = output_within_a_minute(program().args(words).arg(store));
+        let refused = output_unless_it_serves(program().args(words).arg(store));
         assert_eq!(refused.status.code(), Some(1), "{}", errors(&refused));
         for message in [why, "give --create at the first start"] {
             assert!(errors(&refused).contains(message), "{message}: {}", errors(&refused));

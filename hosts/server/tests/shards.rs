@@ -1,7 +1,7 @@
 //! A server of one shard: whom it serves, on which store, and who may evict there.
 mod common;
 
-use common::{Serving, errors, output_within_a_minute, program, run, text};
+use common::{Serving, errors, output_unless_it_serves, program, run, text};
 use krl::{
     Change, Client, JoinError, JoinErrorKind, Outcome, Servers, Snapshot, SqliteStore, Value,
 };
@@ -40,7 +40,7 @@ fn a_store_with_a_key_of_another_shard_is_not_served() {
     SqliteStore::create(&store, &Snapshot { epoch: 1, rows, ..Snapshot::default() }).unwrap();
     let words = ["serve", "--shard", "0..500@3", "--status", "off", "--listen", "127.0.0.1:0"];
     let words = [&words[..], &["--store", store.to_str().unwrap()]].concat();
-    let ended = output_within_a_minute(program().args(words));
+    let ended = output_unless_it_serves(program().args(words));
     assert_eq!(ended.status.code(), Some(1));
     let printed = [errors(&ended), common::text(&ended)].concat();
     assert!(printed.contains("the store has the key 700, which the shard 0..500@3"), "{printed}");
@@ -53,7 +53,7 @@ fn a_store_with_a_key_of_another_shard_is_not_served() {
 fn refused(store: &Path, shard: &[&str]) -> String {
     let words = ["serve", "--status", "off", "--listen", "127.0.0.1:0", "--store"];
     let words = [&words[..], &[store.to_str().unwrap()], shard].concat();
-    let ended = output_within_a_minute(program().args(words));
+    let ended = output_unless_it_serves(program().args(words));
     assert_eq!(ended.status.code(), Some(1));
     [errors(&ended), common::text(&ended)].concat()
 }

@@ -1,7 +1,7 @@
 //! Servers over a cluster: one serves, and another takes its place. They start a node of etcd.
 mod common;
 
-use common::{ServiceManager, Serving, errors, lock_file, output_within_a_minute, program, until};
+use common::{ServiceManager, Serving, errors, lock_file, output_unless_it_serves, program, until};
 use krl::{Client, ErrorKind, Outcome, Servers, Value};
 use krl_testing::cluster::Cluster;
 use krl_testing::ports::free_address;
@@ -143,7 +143,7 @@ fn an_empty_place_is_served_only_if_it_is_asked_for() {
     let Some(cluster) = Cluster::start() else { return };
     let mut command = over(&cluster, "empty");
     let words = ["--status", "off", "--listen", "127.0.0.1:0"];
-    let output = output_within_a_minute(command.args(words));
+    let output = output_unless_it_serves(command.args(words));
     assert_eq!(output.status.code(), Some(1));
     assert!(errors(&output).contains(" holds nothing. "), "{}", errors(&output));
     drop(Serving::start_by(&mut over(&cluster, "empty")));

@@ -1,7 +1,7 @@
 //! A server and its operator over TLS, with the certificates that the packaged script makes.
 mod common;
 
-use common::{Serving, errors, lock_file, output_within_a_minute, program, run, text, until};
+use common::{Serving, errors, lock_file, output_unless_it_serves, program, run, text, until};
 use krl::{Client, JoinError, JoinErrorKind, Outcome, Servers, TlsConfig, Value};
 use std::fs::File;
 use std::io::{Read, Write};
@@ -295,7 +295,7 @@ fn a_certificate_that_no_client_believes_is_refused_at_the_start() {
         for words in [&["config"][..], &["serve", "--status", "off"]] {
             let mut command = program();
             command.args(words).args(setup.shows(holder)).arg("--store").arg(setup.file("krl.db"));
-            let output = output_within_a_minute(command.args(["--listen", "tls:127.0.0.1:0"]));
+            let output = output_unless_it_serves(command.args(["--listen", "tls:127.0.0.1:0"]));
             assert_eq!(output.status.code(), Some(2), "{holder}: {}", errors(&output));
             assert!(errors(&output).contains(why), "{holder}: {}", errors(&output));
         }

@@ -1,8 +1,8 @@
 //! The calls of a client that wait for their answers.
 use crate::judge::Version;
 use crate::lock_file::LockFile;
-use krl::sans_io::{Cached, Call, Client, Held};
-use krl::{Error, Outcome, Row, Write};
+use krl::sans_io::{Cached, Call, Client, Held, Purpose};
+use krl::{Error, Outcome, Row, Value, Write};
 use std::ops::Range;
 use std::time::Duration;
 
@@ -45,6 +45,10 @@ pub struct Pinned {
     pub rows: Vec<Row>,
     /// The pin.
     pub pin: u64,
+    /// What it is for.
+    pub purpose: Purpose,
+    /// The values that the client has written under it.
+    pub written: Vec<Value>,
     /// Until when, by the clock of the client's machine.
     pub until: Duration,
 }
@@ -70,7 +74,7 @@ pub struct Calls {
     /// Writes of an unknown outcome, each with the moment at which its call ended.
     pub unknown: Vec<(Write, Duration)>,
     /// A range that is to be pinned.
-    pub holding: Option<Waiting<Range<u64>, Held>>,
+    pub holding: Option<Waiting<(Range<u64>, Purpose), Held>>,
     /// A range that is pinned.
     pub pinned: Option<Pinned>,
     /// A write that is made while the pin holds, or never. The pin may be gone by now.

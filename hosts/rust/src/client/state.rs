@@ -12,6 +12,7 @@ mod pins;
 mod request;
 mod sharing;
 mod takings;
+mod unkept;
 mod watched;
 mod writing;
 mod yielding;
@@ -104,7 +105,8 @@ pub(crate) enum WasSent {
 ///   others return an [`Asked`], whose answer comes later, or has come already. [`State::abandon`]
 ///   ends one for which nobody waits any more.
 /// - B. What comes from the server: [`State::receive`] takes a message of the library, and
-///   [`State::receive_answer`] what the server's host answers to a sign.
+///   [`State::receive_answer`] and [`State::receive_rows`] what the server's host answers to a sign
+///   and to a question.
 /// - C. What time and connections bring: [`State::greet`] and [`State::disconnect`];
 ///   [`State::end_lease_if_over`], [`State::advance`] and [`State::tick_if_due`]; and
 ///   [`State::drop_all`] and [`State::begin_again`], between which the client has no incarnation.
@@ -255,6 +257,7 @@ impl State {
 
     /// The job ends for this reason, and what it has pinned on its way is free again.
     fn refuse_one(&mut self, id: JobId, mut job: Job, why: ErrorKind) {
+        self.withdraw_question(id);
         match &mut job {
             Job::Hold(taking, _) => self.give_up(id, taking),
             Job::Write(wanted, _) => self.let_go(id, wanted),
@@ -333,6 +336,7 @@ impl State {
         let _ = match self.life.stage {
             Stage::Here | Stage::Returning | Stage::Finishing => {
                 self.yield_again();
+                self.repeat_question();
                 self.client.tick()
             }
             Stage::Leaving => self.client.leave(),
@@ -368,8 +372,8 @@ impl State {
             }
             Job::Read(keys, reply) => {
                 let rows = self.try_read(id, &keys);
-                if matches!(rows, Ok(Some(_))) {
-                    self.note_read(id, keys.start);
+                if !matches!(rows, Ok(None)) {
+                    self.withdraw_question(id);
                 }
                 reply.give(rows).map(|reply| Job::Read(keys, reply))
             }
@@ -389,7 +393,16 @@ impl State {
 
     fn try_read(&mut self, id: JobId, keys: &Range<u64>) -> Result<Option<Vec<Row>>, Code> {
         with_room(|room| match self.client.scan(keys, room, self.now)? {
-            Scan::Rows => copied(room).map(Some),
+            Scan::Rows => {
+                if self.has_asked(id) {
+                    self.note_locked_read(keys, room.len());
+                }
+                copied(room).map(Some)
+            }
+            Scan::Miss(_) if self.reads_without_lock(id, keys) => {
+                self.ask_for_rows(id, keys);
+                Ok(None)
+            }
             Scan::Miss(point) if self.may_ask(id, point) => {
                 let unknown = point..self.end_of_unknown(&(point..keys.end), room);
                 self.ask_to_read(id, unknown).map(|_| None)

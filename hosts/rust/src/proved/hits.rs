@@ -24,6 +24,12 @@ pub(crate) fn region_of(key: u64) -> usize {
     usize::try_from(region).unwrap_or(0)
 }
 
+/// The keys around this one that have one count and follow one another.
+pub(crate) fn region_around(key: u64) -> Range<u64> {
+    let start = key - key % REGION_KEYS;
+    start..start + REGION_KEYS
+}
+
 /// The regions of a range, each once.
 pub(crate) fn regions_of(keys: &Range<u64>) -> impl Iterator<Item = usize> + use<> {
     let last = keys.end.saturating_sub(1).max(keys.start);
@@ -78,6 +84,14 @@ mod tests {
         let of = |key| hits.in_region(region_of(key));
         assert_eq!([of(128), of(191), of(127), of(192), of(63)], [5, 5, 0, 0, 1]);
         assert_eq!(hits.all(), 6);
+    }
+
+    #[test]
+    fn the_keys_around_a_key_are_of_its_region() {
+        for (key, keys) in [(0, 0..64), (63, 0..64), (64, 64..128), (1000, 960..1024)] {
+            assert_eq!(region_around(key), keys);
+            assert!(keys.clone().all(|other| region_of(other) == region_of(key)));
+        }
     }
 
     #[test]

@@ -5,7 +5,7 @@ use crate::model::code::Code;
 use crate::model::lock::{HeldSlot, Mode, Waiting};
 use crate::model::reach::Reach;
 use crate::model::room::Room;
-use crate::model::row::Row;
+use crate::model::row::{END, Row};
 use crate::model::snapshot::Snapshot;
 use crate::proved::ffi;
 use crate::proved::handle::{Handle, code, done};
@@ -141,24 +141,43 @@ impl ServerHandle {
         Some(HeldSlot { lo, hi, client, mode })
     }
 
+    /// Whether the client would get all slots that meet these keys at once to read them: the server
+    /// serves, no other client holds there what excludes a reader, and nobody waits there.
+    pub fn may_read(&mut self, client: u8, keys: &Range<u64>) -> Result<bool, Code> {
+        let (mut point, end) = (keys.start, keys.end.min(END));
+        while point < end {
+            // SAFETY: the handle stays in its place, and `&mut` gives it to this call only.
+            let found =
+                unsafe { ffi::krl_server_read_slot(self.handle.raw(), client.into(), point) };
+            done(found.reply)?;
+            if found.may_read == 0 {
+                return Ok(false);
+            }
+            point = found.slot.saturating_add(1);
+        }
+        Ok(true)
+    }
+
     /// The rows of the index whose keys are in this range, in ascending order, as many as there is
-    /// room for: they are all that is left in `rows`. Returns the key at which the others begin, or
-    /// the end of the range if there are none.
+    /// room for, and the key at which the others begin, or the end of the range if there are none.
     ///
     /// # Errors
     ///
     /// [`Code::Unkept`] if they rest on a change that is not confirmed.
-    pub fn rows(&mut self, keys: Range<u64>, rows: &mut Vec<Row>) -> Result<u64, Code> {
-        let (at, room) = (rows.as_mut_ptr(), rows.len());
+    pub fn rows<'r>(
+        &mut self,
+        keys: Range<u64>,
+        room: &'r mut [Row],
+    ) -> Result<(&'r [Row], u64), Code> {
+        let (at, length) = (room.as_mut_ptr(), room.len());
         // SAFETY: as for any handle, and there is this much room to be written to.
         let page =
-            unsafe { ffi::krl_server_rows(self.handle.raw(), keys.start, keys.end, at, room) };
+            unsafe { ffi::krl_server_rows(self.handle.raw(), keys.start, keys.end, at, length) };
         let count = usize::try_from(done(page.reply)?).map_err(|_| Code::OutOfMemory)?;
         if page.after > self.confirmed {
             return Err(Code::Unkept);
         }
-        rows.truncate(count);
-        Ok(page.next)
+        Ok((room.get(..count).ok_or(Code::OutOfMemory)?, page.next))
     }
 
     /// Takes what waits to be sent, as frames, into the front of `room`, and returns how many bytes

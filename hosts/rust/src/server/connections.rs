@@ -344,6 +344,11 @@ impl Connections {
         self.routes.set(client, number);
     }
 
+    /// A client whose messages go to this connection, if there is one.
+    pub fn client_of(&self, number: u64) -> Option<u8> {
+        self.routes.client_of(number)
+    }
+
     /// Whether the client's messages go to this connection.
     pub fn is_routed(&self, client: u8, number: u64) -> bool {
         self.routes.of(client) == Some(number)

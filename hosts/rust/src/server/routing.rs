@@ -48,6 +48,12 @@ impl Routes {
         self.connections.get(&client).copied()
     }
 
+    /// A client whose messages go to this connection, if there is one.
+    pub fn client_of(&self, connection: u64) -> Option<u8> {
+        let mut routes = self.connections.iter();
+        routes.find(|(_, to)| **to == connection).map(|(client, _)| *client)
+    }
+
     /// The clients that are connected, by number.
     pub fn clients(&self) -> Vec<u8> {
         let mut clients: Vec<u8> = self.connections.keys().copied().collect();
@@ -83,6 +89,7 @@ mod tests {
         routes.set(3, 2);
         assert_eq!((routes.of(3), routes.of(9), routes.of(4)), (Some(2), Some(1), None));
         assert_eq!(routes.clients(), [3, 9]);
+        assert_eq!([1, 2, 3].map(|it| routes.client_of(it)), [Some(9), Some(3), None]);
         routes.close(1);
         assert_eq!((routes.of(3), routes.of(9)), (Some(2), None));
     }

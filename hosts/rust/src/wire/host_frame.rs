@@ -230,7 +230,7 @@ mod tests {
     use crate::lease::terms::{Answer, Grant, Older, Sign};
     use crate::model::row::{Row, Value};
     use crate::wire::frames::split;
-    use crate::wire::read_frame::{ReadRequest, RowPage};
+    use crate::wire::read_frame::{ReadRequest, rows_frame};
 
     const HELLO: FromServer = FromServer::Hello { answers_signs: true };
     const SEEN: Seen =
@@ -328,7 +328,7 @@ mod tests {
             FromServer::Refused(Refusal::Incarnation { client: 3, registered: 258 }).frame(),
             FromClient::ReaderHello(None).frame(),
             ReadRequest { number: 7, lo: 5, hi: 257 }.frame(),
-            RowPage { number: 7, next: 257, rows: vec![row] }.frame(),
+            rows_frame(7, 257, &[row]),
         ];
         let hexadecimal = |frame: &Vec<u8>| -> String {
             frame.iter().map(|byte| format!("{byte:02x}")).collect::<Vec<_>>().concat()

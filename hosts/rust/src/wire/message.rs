@@ -17,10 +17,6 @@ const SPAN_AT: [usize; 2] = [26, 34];
 /// numbers and the outcome.
 const ANSWERED_AT: [usize; 2] = [43, 51];
 
-/// Where the holdings of a Grant begin, after their count, and the bytes of one without a value.
-const HOLDINGS_AT: usize = 43;
-const HOLDING_BYTES: usize = 18;
-
 /// Where a Lock and a Grant have the number of their request: after the head and two numbers.
 const REQUEST_AT: usize = 34;
 
@@ -64,14 +60,6 @@ pub(crate) struct Head {
     /// The number that the message names as its client's. It may be none.
     pub number: u64,
     pub incarnation: u64,
-}
-
-/// What a grant gives.
-#[derive(Clone, Debug, PartialEq, Eq)]
-pub(crate) struct Granted {
-    /// The points from the first slot to the last one.
-    pub span: Range<u64>,
-    pub slots: usize,
 }
 
 /// A string that may be a message, and its head.
@@ -177,18 +165,6 @@ impl<'m> Message<'m> {
         self.span(ANSWERED_AT).filter(|_| self.kind() == Kind::Answer)
     }
 
-    /// What it gives, if it is a grant.
-    pub fn granted(&self) -> Option<Granted> {
-        let count = self.bytes.get(HOLDINGS_AT - 1).filter(|_| self.kind() == Kind::Grant)?;
-        let mut holdings = self.bytes.get(HOLDINGS_AT..)?;
-        let (start, mut end) = (number(holdings, 0)?, None);
-        for _ in 0..*count {
-            end = Some(number(holdings, 8)?);
-            holdings = after_holding(holdings)?;
-        }
-        Some(Granted { span: start..end?, slots: usize::from(*count) })
-    }
-
     fn span(&self, at: [usize; 2]) -> Option<Range<u64>> {
         let [start, end] = at.map(|at| number(self.bytes, at));
         Some(start?..end?)
@@ -198,15 +174,6 @@ impl<'m> Message<'m> {
     pub fn request(&self) -> Option<u64> {
         let has_one = matches!(self.kind(), Kind::Lock | Kind::Grant);
         number(self.bytes, REQUEST_AT).filter(|_| has_one)
-    }
-}
-
-/// What comes after the first holding of these bytes, which has its span and its mode, and whether it
-/// has a value; and then the length of the value, and the value.
-fn after_holding(bytes: &[u8]) -> Option<&[u8]> {
-    match bytes.get(HOLDING_BYTES - 1)? {
-        0 => bytes.get(HOLDING_BYTES..),
-        _ => bytes.get(HOLDING_BYTES + 1 + usize::from(*bytes.get(HOLDING_BYTES)?)..),
     }
 }
 
@@ -274,7 +241,7 @@ pub(crate) mod tests {
                 bytes.resize(length.max(2), 0xff);
                 let message = Message::read(&bytes);
                 let _ = (message.epoch(), message.called_back(), message.request());
-                let _ = (message.answered_slot(), message.granted());
+                let _ = message.answered_slot();
                 assert_eq!(message.client(), None);
             }
         }
@@ -309,28 +276,6 @@ pub(crate) mod tests {
         assert_eq!(Message::read(&bytes[..58]).answered_slot(), None);
         bytes[KIND_AT] = kind::GRANT;
         assert_eq!(Message::read(&bytes).answered_slot(), None);
-    }
-
-    #[test]
-    fn a_grant_has_its_slots() {
-        let mut bytes = message(kind::GRANT, &[3, 2, 1, 4, 5]);
-        bytes.push(3);
-        let holdings: [(u64, u64, &[u8]); 3] =
-            [(100, 200, &[0]), (200, 201, &[1, 2, 0xca, 0xfe]), (201, 300, &[1, 0])];
-        for (start, end, value) in holdings {
-            bytes.extend([start.to_le_bytes(), end.to_le_bytes()].as_flattened());
-            bytes.push(4);
-            bytes.extend(value);
-        }
-        let granted = Granted { span: 100..300, slots: 3 };
-        assert_eq!(Message::read(&bytes).granted(), Some(granted));
-        for length in 0..bytes.len() {
-            assert_eq!(Message::read(&bytes[..length]).granted(), None, "{length} bytes");
-        }
-        bytes[HOLDINGS_AT - 1] = 0;
-        assert_eq!(Message::read(&bytes).granted(), None);
-        (bytes[HOLDINGS_AT - 1], bytes[KIND_AT]) = (3, kind::ANSWER);
-        assert_eq!(Message::read(&bytes).granted(), None);
     }
 
     #[test]

@@ -21,7 +21,8 @@ pub(crate) struct ReadRequest {
     pub hi: u64,
 }
 
-/// The answer: all rows from `lo` on below `next`, in ascending order.
+/// The answer: all rows from `lo` on below `next`, in ascending order; none, with `lo` as `next`, if
+/// another client keeps some of them from the client that asks.
 #[derive(Clone, Debug, PartialEq, Eq)]
 pub(crate) struct RowPage {
     pub number: u64,
@@ -42,6 +43,12 @@ impl ReadRequest {
         Some(ReadRequest { number, lo, hi })
     }
 
+    /// Whether the page has no rows for it, since another client keeps some of them for itself just
+    /// now. A reader is never told so.
+    pub fn is_refused_by(&self, page: &RowPage) -> bool {
+        page.number == self.number && page.next == self.lo && page.rows.is_empty()
+    }
+
     /// Whether the page answers it: it brings the reader on, and all of its rows lie in what it
     /// answers, in ascending order.
     pub fn is_answered_by(&self, page: &RowPage) -> bool {
@@ -52,19 +59,20 @@ impl ReadRequest {
     }
 }
 
-impl RowPage {
-    /// The frame, with its length.
-    pub fn frame(&self) -> Vec<u8> {
-        let mut content = bytes_of([self.number, self.next, self.rows.len() as u64]);
-        for Row { key, value } in &self.rows {
-            let bytes = value.as_bytes();
-            content.extend(key.to_le_bytes());
-            content.extend(u8::try_from(bytes.len()).ok());
-            content.extend(bytes);
-        }
-        host_frame::framed(&[HOST, ROWS], &content)
+/// The frame of an answer, with its length: all rows from where the question of this number begins,
+/// below the next key.
+pub(crate) fn rows_frame(number: u64, next: u64, rows: &[Row]) -> Vec<u8> {
+    let mut content = bytes_of([number, next, rows.len() as u64]);
+    for Row { key, value } in rows {
+        let bytes = value.as_bytes();
+        content.extend(key.to_le_bytes());
+        content.extend(u8::try_from(bytes.len()).ok());
+        content.extend(bytes);
     }
+    host_frame::framed(&[HOST, ROWS], &content)
+}
 
+impl RowPage {
     /// The content of the frame, without its length, or `None` if it is of another kind, or if a row
     /// is cut off or too long. A later release may send more after the rows.
     pub fn read(frame: &[u8]) -> Option<RowPage> {
@@ -108,7 +116,7 @@ mod tests {
         let frame = REQUEST.frame();
         assert_eq!(ReadRequest::read(&frame[8..]), Some(REQUEST));
         for page in [page(300, &[]), page(258, &[5, 257])] {
-            let frame = page.frame();
+            let frame = rows_frame(page.number, page.next, &page.rows);
             assert_eq!(RowPage::read(&frame[8..]).as_ref(), Some(&page));
             let longer = [&frame[8..], b"more"].concat();
             assert_eq!(RowPage::read(&longer).as_ref(), Some(&page));
@@ -121,14 +129,14 @@ mod tests {
     fn the_longest_page_is_no_longer_than_the_longest_frame() {
         let value = Value::try_from([7; MAX_VALUE_BYTES]).unwrap();
         let rows: Vec<Row> = (0..PAGE as u64).map(|key| Row { key, value }).collect();
-        let frame = RowPage { number: u64::MAX, next: 128, rows }.frame();
+        let frame = rows_frame(u64::MAX, 128, &rows);
         assert!(frame.len() - 8 <= LONGEST_TO_CLIENT);
         assert_eq!(RowPage::read(&frame[8..]).map(|page| page.rows.len()), Some(PAGE));
     }
 
     #[test]
     fn a_row_with_too_long_a_value_is_not_read() {
-        let mut frame = page(258, &[5]).frame();
+        let mut frame = rows_frame(7, 258, &page(258, &[5]).rows);
         let length_at = 8 + 2 + 24 + 8;
         assert_eq!(frame[length_at], 8);
         frame[length_at] = 33;
@@ -140,6 +148,11 @@ mod tests {
     fn only_rows_of_the_question_in_order_answer_it() {
         for answer in [page(300, &[]), page(300, &[5, 299]), page(6, &[5])] {
             assert!(REQUEST.is_answered_by(&answer), "{answer:?}");
+            assert!(!REQUEST.is_refused_by(&answer), "{answer:?}");
+        }
+        assert!(REQUEST.is_refused_by(&page(5, &[])));
+        for other in [RowPage { number: 8, ..page(5, &[]) }, page(5, &[5]), page(4, &[])] {
+            assert!(!REQUEST.is_refused_by(&other), "{other:?}");
         }
         let other = RowPage { number: 8, ..page(300, &[]) };
         for answer in [

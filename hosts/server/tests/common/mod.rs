@@ -37,16 +37,22 @@ pub fn run(words: &[&str]) -> Output {
     program().args(words).output().unwrap()
 }
 
-/// What a program leaves that has to end by itself. It is killed after a minute.
-pub fn output_within_a_minute(command: &mut Command) -> Output {
-    let mut process = command.stdout(Stdio::piped()).stderr(Stdio::piped()).spawn().unwrap();
+/// What a server leaves that does not start. One that serves is killed, and so is one that has not
+/// ended after a minute.
+pub fn output_unless_it_serves(command: &mut Command) -> Output {
+    let log = tempfile::NamedTempFile::new().unwrap();
+    let mut process = command.stdout(Stdio::piped()).stderr(log.reopen().unwrap()).spawn().unwrap();
+    let read = || std::fs::read(log.path()).unwrap();
     let end = Instant::now() + Duration::from_secs(60);
-    while process.try_wait().unwrap().is_none() && Instant::now() < end {
+    while process.try_wait().unwrap().is_none()
+        && Instant::now() < end
+        && !String::from_utf8(read()).unwrap().contains(" ready ")
+    {
         thread::sleep(Duration::from_millis(10));
     }
     // One that has ended needs no end.
     let _ = process.kill();
-    process.wait_with_output().unwrap()
+    Output { stderr: read(), ..process.wait_with_output().unwrap() }
 }
 
 /// The library that kills a process before one of its changes of a file.

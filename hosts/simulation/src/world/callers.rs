@@ -113,7 +113,7 @@ impl World {
         let Some(it) = &mut machine.client else { return };
         if !machine.calls.may_write() {
             let call = it.hold(time, keys.clone(), purpose);
-            machine.calls.holding = Some(Waiting::new(keys, call, made, deadline));
+            machine.calls.holding = Some(Waiting::new((keys, purpose), call, made, deadline));
         }
     }
 
@@ -245,9 +245,29 @@ impl World {
         let Ended { asked, made, answer: Ok(rows) } = ended else { return };
         self.counts.reads += 1;
         self.judge.read(&format_client(client), &asked, &rows, &when);
+        self.judge_pins_of_others(client, &rows);
         self.decide_unknown(client, made, &asked);
         self.note_served(client, made, 0);
         self.note(Node::Client(client), 20, || format!("reads {asked:?}: {}", spelled(&rows)));
+    }
+
+    /// No client reads what another one has written under a pin by which it keeps the range for
+    /// itself, as long as that holds.
+    fn judge_pins_of_others(&mut self, client: usize, rows: &[Row]) {
+        for other in (0..self.machines.len()).filter(|other| *other != client) {
+            let machine = &mut self.machines[other];
+            let time = machine.clock.at(self.now);
+            let (Some(pinned), Some(it)) = (&machine.calls.pinned, &mut machine.client) else {
+                continue;
+            };
+            let is_written = |row: &Row| pinned.written.contains(&row.value);
+            let is_read = pinned.purpose == Purpose::Write && rows.iter().any(is_written);
+            if is_read && it.holds_pin(time, pinned.pin) {
+                let keys = pinned.keys.clone();
+                self.judge
+                    .find(format!("client {client} reads what {other} has pinned of {keys:?}"));
+            }
+        }
     }
 
     fn look_at_writing(&mut self, client: usize) {
@@ -333,14 +353,17 @@ impl World {
 
     fn look_at_holding(&mut self, client: usize) {
         let Some((ended, when)) = self.ended(client, |calls| &mut calls.holding) else { return };
-        let Ended { asked: keys, answer: Ok(Held { rows, pin }), .. } = ended else { return };
+        let Ended { asked: (keys, purpose), answer: Ok(Held { rows, pin }), .. } = ended else {
+            return;
+        };
         self.counts.pins += 1;
         self.judge.read(&format_client(client), &keys, &rows, &when);
         self.note(Node::Client(client), 23, || format!("pins {keys:?}: {}", spelled(&rows)));
         let life = self.call_dice.time(self.weather.pin_lives.clone());
         let machine = &mut self.machines[client];
         let until = machine.time(self.now) + life;
-        machine.calls.pinned = Some(Pinned { keys, rows, pin, until });
+        let written = Vec::new();
+        machine.calls.pinned = Some(Pinned { keys, rows, pin, purpose, written, until });
     }
 
     /// While a pin holds, the rows are as the client knows them.
@@ -350,7 +373,7 @@ impl World {
         let time = machine.clock.at(self.now);
         let is_writing = machine.calls.bound.is_some();
         let (Some(pinned), Some(it)) = (&machine.calls.pinned, &mut machine.client) else { return };
-        let Pinned { keys, rows, pin, until } = pinned;
+        let Pinned { keys, rows, pin, until, .. } = pinned;
         let holds = it.holds_pin(time, *pin);
         // A write under the pin may be made, and not be answered yet.
         if holds && !is_writing && !self.judge.has(keys, rows, &now) {
@@ -382,7 +405,9 @@ impl World {
         let time = self.machines[client].time(self.now);
         let deadline = self.draw_deadline(time);
         let machine = &mut self.machines[client];
-        let (Some(pinned), Some(it)) = (&machine.calls.pinned, &mut machine.client) else { return };
+        let Some(pinned) = &mut machine.calls.pinned else { return };
+        let Some(it) = &mut machine.client else { return };
+        pinned.written.push(row.value);
         self.judge.bind(write, pinned.keys.clone(), pinned.rows.clone());
         let call = it.write(time, write, Some(pinned.pin));
         machine.calls.bound = Some(Waiting::new(write, call, made, deadline));

@@ -1,5 +1,5 @@
 //! What a client's host and that of its server send to one another beneath the messages.
-use super::Session;
+use super::{Session, bad_message};
 use crate::client::state::Dropped;
 use crate::lease::terms::Answer;
 use crate::log::event_log;
@@ -7,6 +7,7 @@ use crate::model::error::{Error, ErrorKind};
 use crate::model::refusal::Refusal;
 use crate::net::connect_fault::Rejection;
 use crate::wire::host_frame::{FromClient, FromServer};
+use crate::wire::read_frame::RowPage;
 use std::io;
 
 impl Session {
@@ -56,14 +57,21 @@ impl Session {
                 self.state.go_without_terms()?;
             }
             Some(FromServer::Hello { answers_signs: true }) => {}
-            None => {
-                if let Some(answer) = Answer::read(frame) {
-                    self.connection()?.fence.passes()?;
-                    // Who may not sign for the client is denied in place of that.
-                    self.accepted();
-                    self.state.receive_answer(answer)?;
-                }
-            }
+            None => self.receive_host_answer(frame)?,
+        }
+        Ok(())
+    }
+
+    /// Takes the answer to a sign or to a question, which comes after the shard is confirmed.
+    fn receive_host_answer(&mut self, frame: &[u8]) -> io::Result<()> {
+        if let Some(page) = RowPage::read(frame) {
+            self.connection()?.fence.passes()?;
+            self.state.receive_rows(page).map_err(bad_message)?;
+        } else if let Some(answer) = Answer::read(frame) {
+            self.connection()?.fence.passes()?;
+            // Who may not sign for the client is denied in place of that.
+            self.accepted();
+            self.state.receive_answer(answer)?;
         }
         Ok(())
     }

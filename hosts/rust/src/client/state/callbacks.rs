@@ -126,9 +126,6 @@ impl State {
         let awaited = self.shows(Shown::awaits_a_push);
         give(&mut self.client, message.bytes())?;
         self.note_received(message.kind(), awaited);
-        if was_waiting && let Some(granted) = message.granted() {
-            self.note_granted(granted);
-        }
         if message.kind().is_push() {
             self.attempts.note_served();
             self.call_back_again(was_waiting)?;

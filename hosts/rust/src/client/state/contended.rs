@@ -9,6 +9,9 @@
 //!
 //! A client that the server has not answered yet asks for its lock first too. If it has no right to
 //! rows, it learns that before it has sent a write, and knows that nothing was changed.
+//!
+//! Where the client keeps nothing, callbacks show only what was before: it is called back for
+//! nothing there, and other clients that write so often keep nothing either.
 use super::bound::{Bond, Wanted};
 use super::{JobId, State};
 use crate::model::change::Write;
@@ -55,8 +58,13 @@ impl State {
             && wanted.bond == Bond::Free
             && self.may_ask(id, key)
             && !self.client.holds(key)
-            && !self.held.callbacks.show_contention(key, self.now.monotonic)
+            && !self.is_contended(key)
             && self.attempts.try_next()
+    }
+
+    /// Whether other clients may hold what a write of this key needs.
+    fn is_contended(&self, key: u64) -> bool {
+        !self.keeping.is_unkept(key) && self.held.callbacks.show_contention(key, self.now.monotonic)
     }
 }
 

@@ -3,9 +3,9 @@
 //! Each write of another client takes its row out of this one's cache: the server calls the client
 //! back, and it releases the row. That takes two messages, makes the writer wait, and pays only if
 //! the cache has saved a trip to the server meanwhile. Where it has saved fewer trips than it has
-//! lost rows, the client gives back what it has just been granted to read, together with the
-//! acknowledgement of the grant. So the next writer has to call nobody back. What the cache had of
-//! the range stays there until it is lost.
+//! lost rows, the client gives back what it has there, and asks for no lock to read: it has the
+//! server's host send the rows, as `unkept.rs` describes. What it has written it gives back at once.
+//! So the next writer has to call nobody back.
 //!
 //! The client no longer sees then how often others write there. So after many reads it keeps what
 //! it reads, and counts again: after more reads each time that it did not pay. A few clients that
@@ -19,10 +19,11 @@
 //! asked for again, and if the server ignores a release, it calls the client back later. But a
 //! caller that waits for changes of a range does so by what the client knows of it, and would read
 //! it again and again. So what was watched once is kept.
+use super::State;
 use super::sharing::entry_of;
-use super::{Job, JobId, State};
 use crate::proved::client_handle::Shown;
-use crate::proved::hits::{Hits, REGIONS, region_of, regions_of};
+use crate::proved::hits::{Hits, REGIONS, region_around, region_of, regions_of};
+use crate::wire::read_frame::PAGE;
 use std::mem;
 use std::ops::Range;
 
@@ -31,13 +32,9 @@ use std::ops::Range;
 const ENOUGH: u32 = 16;
 const FEW: u32 = 3;
 
-/// This many reads of the server give back what they have read, before the client counts again.
+/// This many reads of the server are not kept, before the client counts again.
 const FEWEST_READS: u16 = 256;
 const MOST_READS: u16 = 4096;
-
-/// A read that was granted more slots is kept: to read all of them again takes longer than to obey
-/// the callbacks of those that are written.
-const MOST_SLOTS: usize = 64;
 
 /// What of the rows that it reads the client keeps.
 pub(super) struct Keeping {
@@ -46,8 +43,8 @@ pub(super) struct Keeping {
     /// As was counted last, it has lost more everywhere than it saved.
     loses: bool,
     keeps_all: bool,
-    /// What was read since the last call of [`State::give_back_unkept`] and is not kept.
-    unkept: Vec<Range<u64>>,
+    /// What is given back by the next call of [`State::give_back_unkept`].
+    given_up: Vec<Range<u64>>,
 }
 
 /// What was lost and saved since the count began.
@@ -62,10 +59,10 @@ struct Count {
 #[derive(Clone, Copy, Debug, Default)]
 struct Region {
     count: Count,
-    /// This many more reads of the server give back what they have read.
-    gives_back: u16,
-    /// How many did so the last time: none if it paid to keep it.
-    gave_back: u16,
+    /// This many more reads of the server are not kept.
+    unkept: u16,
+    /// How many were not the last time: none if it paid to keep them.
+    were_unkept: u16,
     /// A caller has waited for changes here.
     is_watched: bool,
 }
@@ -89,33 +86,32 @@ impl Count {
 impl Region {
     /// The client has asked the server for what it has read here. `hits` is how many scans that
     /// begin here the cache has answered, and `loses` whether it loses more than it saves
-    /// everywhere. Returns whether it keeps what it has read.
-    fn keeps(&mut self, hits: u32, loses: bool) -> bool {
-        if self.gives_back > 0 {
-            self.gives_back -= 1;
+    /// everywhere. Returns whether the client no longer keeps what it has here.
+    fn note_read(&mut self, hits: u32, loses: bool) -> bool {
+        if self.unkept > 0 {
+            self.unkept -= 1;
             self.count.begin(hits);
             return false;
         }
-        let enough = if loses || self.gave_back > 0 { FEW } else { ENOUGH };
-        match self.count.pays(hits, enough) {
-            None => true,
-            Some(true) => {
-                self.gave_back = 0;
-                true
-            }
+        let enough = if loses || self.were_unkept > 0 { FEW } else { ENOUGH };
+        let pays = self.count.pays(hits, enough);
+        match pays {
+            None => {}
+            Some(true) => self.were_unkept = 0,
             Some(false) => {
-                self.gave_back = (self.gave_back * 2).clamp(FEWEST_READS, MOST_READS);
-                self.gives_back = self.gave_back;
-                false
+                self.were_unkept = (self.were_unkept * 2).clamp(FEWEST_READS, MOST_READS);
+                self.unkept = self.were_unkept;
             }
         }
+        pays == Some(false)
     }
 }
 
 impl Default for Keeping {
     fn default() -> Keeping {
         let (regions, everywhere) = (vec![Region::default(); REGIONS].into(), Count::default());
-        Keeping { regions, everywhere, loses: false, keeps_all: false, unkept: Vec::new() }
+        let (loses, keeps_all, given_up) = (false, false, Vec::new());
+        Keeping { regions, everywhere, loses, keeps_all, given_up }
     }
 }
 
@@ -132,28 +128,32 @@ impl Keeping {
         regions_of(keys).for_each(|region| self.regions[region].is_watched = true);
     }
 
+    /// Whether the client keeps nothing that it reads or writes around this key.
+    pub fn is_unkept(&self, key: u64) -> bool {
+        self.reads_unkept(&(key..key + 1))
+    }
+
     fn keeps_always(&self, span: &Range<u64>) -> bool {
         self.keeps_all || regions_of(span).any(|region| self.regions[region].is_watched)
     }
 
-    /// A read that begins at this key has asked the server. The span is given back by
-    /// [`State::give_back_unkept`], unless the client keeps it.
-    fn note_read(&mut self, first: u64, span: Range<u64>, hits: &Hits) {
-        if self.keeps_always(&span) {
+    /// A read of these keys has asked the server.
+    fn note_read(&mut self, keys: &Range<u64>, hits: &Hits) {
+        if self.keeps_always(keys) {
             return;
         }
         if let Some(pays) = self.everywhere.pays(hits.all(), ENOUGH) {
             self.loses = !pays;
         }
-        let region = region_of(first);
-        if !self.regions[region].keeps(hits.in_region(region), self.loses) {
-            self.unkept.push(span);
+        let region = region_of(keys.start);
+        if self.regions[region].note_read(hits.in_region(region), self.loses) {
+            self.given_up.push(region_around(keys.start));
         }
     }
 
-    /// Whether the client does not keep what it writes in this slot.
-    fn gives_back_written(&self, slot: &Range<u64>) -> bool {
-        self.regions[region_of(entry_of(slot))].gives_back > 0 && !self.keeps_always(slot)
+    /// Whether the client does not keep what it reads of these keys.
+    pub fn reads_unkept(&self, keys: &Range<u64>) -> bool {
+        self.regions[region_of(keys.start)].unkept > 0 && !self.keeps_always(keys)
     }
 }
 
@@ -177,51 +177,38 @@ impl State {
         }
     }
 
-    /// The job has read a range that begins at this key.
-    pub(super) fn note_read(&mut self, id: JobId, first: u64) {
-        let granted = self.held.request.as_ref().and_then(|request| request.granted_to(id));
-        if let Some(granted) = granted.filter(|granted| granted.slots <= MOST_SLOTS) {
-            self.keeping.note_read(first, granted.span.clone(), self.client.hits());
-        }
+    /// A job has read these keys, of which it has asked the server.
+    pub(super) fn note_read(&mut self, keys: &Range<u64>) {
+        self.keeping.note_read(keys, self.client.hits());
     }
 
-    /// Gives back what jobs have read that is not kept, when all jobs have continued.
+    /// A job has read so many rows of these keys by a lock. What is not kept, and was locked since
+    /// another client excluded readers, is given back.
+    pub(super) fn note_locked_read(&mut self, keys: &Range<u64>, rows: usize) {
+        if rows <= PAGE && self.keeping.reads_unkept(keys) {
+            self.keeping.given_up.push(keys.clone());
+        }
+        self.note_read(keys);
+    }
+
+    /// Gives back what the client no longer keeps, when all jobs have continued. What is pinned stays
+    /// until it is called back.
     pub(super) fn give_back_unkept(&mut self) {
-        for span in mem::take(&mut self.keeping.unkept) {
-            self.give_back_unless_needed(&span);
+        for keys in mem::take(&mut self.keeping.given_up) {
+            // The server passes over a release that leaves while a push is on its way.
+            if !self.shows(Shown::awaits_a_push) {
+                let _ = self.try_forget(&keys);
+            }
         }
     }
 
     /// Gives back what the client has just written in this slot, unless it keeps it. Returns whether
     /// it is given back.
     pub(super) fn give_back_written(&mut self, slot: &Range<u64>) -> bool {
-        self.keeping.gives_back_written(slot)
+        self.keeping.is_unkept(entry_of(slot))
             && self.may_share(slot)
-            && self.give_back_unless_needed(slot)
-    }
-
-    fn give_back_unless_needed(&mut self, span: &Range<u64>) -> bool {
-        // The server passes over a release that leaves while a push is on its way.
-        !self.shows(Shown::awaits_a_push)
-            && !self.open.iter().any(|(_, job)| job.needs(span))
             // A pin keeps what it has, and without memory nothing is given back.
-            && self.try_forget(span) == Ok(true)
-    }
-}
-
-impl Job {
-    /// Whether the job reads, changes or pins something of this span.
-    fn needs(&self, span: &Range<u64>) -> bool {
-        match self {
-            Job::Read(keys, _) => keys.start < span.end && span.start < keys.end,
-            // A delete needs the slot after that of its key too.
-            Job::Write(wanted, _) => {
-                let key = wanted.write.key();
-                key < span.end && span.start <= key + 1
-            }
-            Job::Hold(taking, _) => taking.meets(span),
-            Job::Join(_) | Job::Forget(..) | Job::Leave(_) => false,
-        }
+            && self.try_forget(slot) == Ok(true)
     }
 }
 

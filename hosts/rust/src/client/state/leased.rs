@@ -56,6 +56,7 @@ impl State {
     /// The connection has ended. What still comes from it grants nothing.
     pub fn disconnect(&mut self) {
         self.client.lease_mut().disconnect();
+        self.repeat_question();
     }
 
     /// Takes what the server's host answers to a sign. The client's moment is one after it has
@@ -122,6 +123,7 @@ impl State {
         }
         self.life.has_sent |= frames.len() > before;
         self.leave_out_acknowledgement(frames, before);
+        self.append_question(frames);
         let is_alone = frames.len() == before;
         let piggyback = if is_alone { Piggyback::Alone } else { Piggyback::OnMessages };
         let now = self.now.boot().ok();

@@ -6,8 +6,9 @@ use super::leased::MaySend;
 use super::pins::PinTable;
 use super::request::Request;
 use super::takings::Takings;
+use super::unkept::Question;
 use super::writing::Written;
-use super::{Asked, Asking, Job, State};
+use super::{Asked, Asking, Job, JobId, State};
 use crate::model::error::ErrorKind;
 use crate::model::refusal::Refusal;
 use crate::proved::client_handle::ClientHandle;
@@ -19,6 +20,9 @@ pub(super) struct PerIncarnation {
     pub written: Option<Written>,
     /// The last request for a lock.
     pub request: Option<Request>,
+    pub question: Option<Question>,
+    /// The last job that could not be answered without a lock.
+    pub needs_lock: Option<JobId>,
     pub acknowledging: Acknowledging,
     pub pins: PinTable,
     pub takings: Takings,

@@ -10,6 +10,7 @@ use crate::proved::client_handle::{ClientHandle, Scan};
 use crate::proved::server_handle::ServerHandle;
 use crate::wire::frames::split;
 use crate::wire::message::Message;
+use crate::wire::read_frame::{PAGE, ReadRequest, RowPage};
 use std::ops::Range;
 use std::time::Duration;
 
@@ -17,6 +18,8 @@ use std::time::Duration;
 pub(crate) struct World {
     pub server: ServerHandle,
     pub clients: Vec<State>,
+    /// Questions for rows that are not answered.
+    pub asked: Vec<ReadRequest>,
 }
 
 pub(crate) fn messages(take: impl FnOnce(&mut Vec<u8>)) -> Vec<Vec<u8>> {
@@ -37,7 +40,8 @@ impl World {
             ServerHandle::open(&Snapshot::default(), Room::default(), Reach::default()).unwrap();
         server.confirm(&[Change::Started { epoch }]).unwrap();
         let open = |number| State::new(ClientHandle::open(number, 1).unwrap(), Now::read());
-        let mut world = World { server, clients: (0..clients).map(open).collect() };
+        let clients = (0..clients).map(open).collect();
+        let mut world = World { server, clients, asked: Vec::new() };
         let joined: Vec<_> = world.clients.iter_mut().map(State::join).collect();
         assert!(joined.iter().all(|joined| joined.answer.try_recv().is_err()), "too early");
         world.settle();
@@ -50,8 +54,14 @@ impl World {
         messages(|frames| self.clients[client].take(frames))
     }
 
+    /// Hands messages over to the server, and questions for rows to its host, which answers them
+    /// at [`World::deliver_to_clients`].
     pub fn deliver_to_server(&mut self, sent: &[Vec<u8>]) {
         for message in sent {
+            if let Some(question) = ReadRequest::read(message) {
+                self.asked.push(question);
+                continue;
+            }
             // A message that is refused is one that is lost.
             if let Ok(Some(change)) = self.server.step(message) {
                 self.server.confirm(&[change]).unwrap();
@@ -74,7 +84,27 @@ impl World {
             let client = usize::from(Message::read(message).client().unwrap());
             self.clients[client].receive(message).unwrap();
         }
-        sent.len()
+        sent.len() + self.answer_questions()
+    }
+
+    /// Answers the questions for rows, which are client 1's.
+    fn answer_questions(&mut self) -> usize {
+        let asked = std::mem::take(&mut self.asked);
+        for question in &asked {
+            let page = self.page(*question);
+            self.clients[1].receive_rows(page).unwrap();
+        }
+        asked.len()
+    }
+
+    /// What the server's host answers to this question of client 1.
+    pub fn page(&mut self, question: ReadRequest) -> RowPage {
+        let ReadRequest { number, lo, hi } = question;
+        let mut room = [Row::default(); PAGE];
+        let (rows, next) = self.server.rows(lo..hi, &mut room).unwrap();
+        let page = RowPage { number, next, rows: rows.to_vec() };
+        let is_shown = self.server.may_read(1, &(lo..next)).unwrap();
+        if is_shown { page } else { RowPage { number, next: lo, rows: Vec::new() } }
     }
 
     /// Hands messages over until nobody sends anything.
@@ -97,6 +127,12 @@ impl World {
 
     pub fn write(&mut self, client: usize, write: Write) -> Outcome {
         let asked = self.clients[client].write(write);
+        self.settle();
+        asked.answer.try_recv().unwrap().unwrap()
+    }
+
+    pub fn write_under(&mut self, client: usize, pin: u64, write: Write) -> Outcome {
+        let asked = self.clients[client].write_under(pin, write);
         self.settle();
         asked.answer.try_recv().unwrap().unwrap()
     }

@@ -93,9 +93,7 @@ impl State {
         };
         let has_asked = is_taken(self.client.lock(points.clone(), mode))?;
         if has_asked {
-            let before = self.held.request.as_ref();
-            let granted = before.and_then(|request| request.granted_to(by)).cloned();
-            self.held.request = Some(Request { by, points, yielded, granted });
+            self.held.request = Some(Request { by, points, yielded });
         }
         Ok(has_asked)
     }

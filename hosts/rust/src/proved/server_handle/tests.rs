@@ -61,8 +61,8 @@ fn rows_are_not_shown_before_what_they_rest_on_is_confirmed() {
     let (mut server, epoch) =
         ServerHandle::open(&snapshot, Room::default(), Reach::default()).unwrap();
     let read = |server: &mut ServerHandle, keys, most| {
-        let mut rows = vec![Row::default(); most];
-        let next = server.rows(keys, &mut rows)?;
+        let mut room = vec![Row::default(); most];
+        let (rows, next) = server.rows(keys, &mut room)?;
         Ok((next, rows.iter().map(|row| row.key).collect::<Vec<_>>()))
     };
     assert_eq!(read(&mut server, 0..9, 3), Err(Code::Unkept), "its epoch is not kept");

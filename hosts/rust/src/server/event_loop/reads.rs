@@ -5,15 +5,17 @@
 //! moment between the question and the answer; and a server after which another one has started
 //! answers nobody, since the store refuses its commit.
 use super::EventLoop;
+use crate::model::code::Code;
 use crate::model::row::Row;
 use crate::server::close_reason::CloseReason;
 use crate::server::connections::MAX_READERS;
 use crate::server::error::ServeError;
 use crate::wire::host_frame::FromClient;
 use crate::wire::incoming::Incoming;
-use crate::wire::read_frame::{PAGE, ReadRequest, RowPage};
+use crate::wire::read_frame::{PAGE, ReadRequest, rows_frame};
 use std::collections::BTreeMap;
 use std::mem;
+use std::ops::Range;
 use std::time::{Duration, Instant};
 
 /// Next to clients, readers get one of so many parts of the server's time.
@@ -26,6 +28,8 @@ const QUIET: Duration = Duration::from_millis(1);
 #[derive(Debug, Default)]
 pub(super) struct Reads {
     waiting: BTreeMap<u64, ReadRequest>,
+    /// Room for the rows of one answer.
+    room: Vec<Row>,
     /// When readers have had no more than their part of the time.
     even_at: Option<Instant>,
     /// Until then clients are about to send more.
@@ -112,18 +116,33 @@ impl EventLoop {
     /// Answers the questions that came before the commit that was just made. The library refuses to
     /// show what rests on anything that is not confirmed.
     pub(super) fn answer_reads(&mut self) -> Result<(), ServeError> {
+        self.reads.room.resize(PAGE, Row::default());
         for (connection, request) in mem::take(&mut self.reads.waiting) {
-            let page = self.page(request)?;
-            self.connections.send_after_commit(connection, &page.frame());
+            let frame = self.answer(connection, request).map_err(ServeError::Refused)?;
+            self.connections.send_after_commit(connection, &frame);
         }
         Ok(())
     }
 
-    fn page(&mut self, request: ReadRequest) -> Result<RowPage, ServeError> {
+    /// The rows that a question is for, as many as one answer has; or none, if another client keeps
+    /// some of them from the one that asks.
+    fn answer(&mut self, connection: u64, request: ReadRequest) -> Result<Vec<u8>, Code> {
         let ReadRequest { number, lo, hi } = request;
-        let mut rows = vec![Row::default(); PAGE];
-        let next = self.server.rows(lo..hi, &mut rows).map_err(ServeError::Refused)?;
-        Ok(RowPage { number, next, rows })
+        let (rows, next) = self.server.rows(lo..hi, &mut self.reads.room)?;
+        let frame = rows_frame(number, next, rows);
+        let is_shown = self.may_see(connection, &(lo..next))?;
+        Ok(if is_shown { frame } else { rows_frame(number, lo, &[]) })
+    }
+
+    /// Whether the rows of these keys are shown on the connection. A client sees none that a lock
+    /// would not let it read just now: others may have pinned them to write. A reader has no number
+    /// by which it could hold a lock or wait for one, and sees what is stored.
+    fn may_see(&mut self, connection: u64, keys: &Range<u64>) -> Result<bool, Code> {
+        if self.connections.is_reader(connection) {
+            return Ok(true);
+        }
+        let client = self.connections.client_of(connection);
+        client.map_or(Ok(false), |client| self.server.may_read(client, keys))
     }
 }
 

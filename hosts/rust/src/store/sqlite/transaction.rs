@@ -39,7 +39,7 @@ impl Drop for WriteTransaction<'_> {
     fn drop(&mut self) {
         if !self.0.is_autocommit() {
             // A connection that can't roll back refuses the next transaction.
-            let _ = self.0.execute_batch(ROLLBACK);
+            let _ = run(self.0, ROLLBACK, &[]);
         }
     }
 }

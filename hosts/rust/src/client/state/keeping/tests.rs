@@ -1,9 +1,10 @@
 use super::*;
-use crate::client::state::world::{World, row};
-use crate::client::state::{Asked, Purpose};
+use crate::client::state::Purpose;
+use crate::client::state::callbacks::CONTENDED_FOR;
+use crate::client::state::world::{World, pass, row};
 use crate::model::change::{Outcome, Write};
-use crate::model::row::Row;
-use crate::wire::message::kind::{CALLBACK, LOCK, RELEASE};
+use crate::model::row::END;
+use crate::wire::message::kind::CALLBACK;
 
 const KEY: u64 = 5;
 const ROW: Range<u64> = KEY..KEY + 1;
@@ -35,18 +36,6 @@ fn world_that_does_not_pay() -> World {
     world
 }
 
-/// Client 1 has asked for what it reads. Hands messages over until that is answered, but none that
-/// client 1 sends then.
-fn deliver_until_answered(world: &mut World, read: &Asked<Vec<Row>>) {
-    let mut sent = world.messages_of(1);
-    assert_eq!(kinds(&sent), [LOCK]);
-    while read.answer.try_recv().is_err() {
-        world.deliver_to_server(&sent);
-        assert!(world.deliver_to_clients() > 0);
-        sent = world.messages_of(0);
-    }
-}
-
 /// The kinds of these messages.
 fn kinds(messages: &[Vec<u8>]) -> Vec<u8> {
     messages.iter().map(|message| message[1]).collect()
@@ -75,9 +64,10 @@ fn a_row_whose_tenure_is_asked_for_is_kept() {
 }
 
 #[test]
-fn rows_that_are_written_more_often_than_read_again_are_given_back() {
+fn rows_that_are_written_more_often_than_read_again_are_not_kept() {
     let mut world = world_that_does_not_pay();
-    assert!(world.is_cached(1, KEY + 1..10), "only what was read then is given back");
+    assert!(!world.clients[1].client.holds(KEY + 1), "what it has there it has given back");
+    world.read(1, ROW);
     let put = world.clients[0].write(Write::Put(row(KEY, 100)));
     let sent = world.messages_of(0);
     world.deliver_to_server(&sent);
@@ -93,14 +83,6 @@ fn what_is_written_is_given_back_where_it_does_not_pay_to_keep_it() {
     assert!(!world.clients[1].client.holds(KEY));
     assert_eq!(world.write(1, Write::Put(row(KEY + 1, 200))), Outcome::Applied);
     assert_eq!(world.read(0, KEY..KEY + 2), [row(KEY, 200), row(KEY + 1, 200)]);
-}
-
-#[test]
-fn a_row_is_given_back_together_with_the_acknowledgement() {
-    let mut world = world_that_does_not_pay();
-    let read = world.clients[1].read(ROW);
-    deliver_until_answered(&mut world, &read);
-    assert_eq!(kinds(&world.messages_of(1)).last(), Some(&RELEASE));
 }
 
 #[test]
@@ -143,27 +125,31 @@ fn what_is_watched_is_kept() {
 #[test]
 fn what_is_pinned_is_not_given_back() {
     let mut world = world_that_does_not_pay();
-    let held = world.clients[1].hold(ROW, Purpose::Read);
+    let held = world.clients[1].hold(ROW, Purpose::Write);
     world.settle();
     assert!(held.answer.try_recv().is_ok());
-    for key in [KEY - 1, KEY + 1] {
-        drop(world.clients[1].forget(key..key + 1));
-    }
-    world.read(1, KEY - 1..KEY + 2);
-    assert!(world.is_cached(1, KEY - 1..KEY + 2));
+    assert_eq!(world.write(1, Write::Put(row(KEY, 200))), Outcome::Applied);
+    assert!(world.is_cached(1, ROW));
 }
 
 #[test]
-fn a_long_read_is_kept() {
-    let mut world = world_that_does_not_pay();
-    let last = MOST_SLOTS as u64 + 1;
-    for key in 10..last {
-        assert_eq!(world.write(0, Write::Insert(row(key, 0))), Outcome::Applied);
-    }
-    for (keys, is_kept) in [(0..last, true), (0..10, false)] {
-        drop(world.clients[1].forget(0..last));
-        world.read(1, keys.clone());
-        assert_eq!(world.is_cached(1, keys.clone()), is_kept, "{keys:?}");
+fn what_another_call_changes_is_not_given_back() {
+    for is_needed in [false, true] {
+        let mut world = world_that_does_not_pay();
+        for client in [0, 1] {
+            drop(world.clients[client].forget(0..END));
+            world.settle();
+        }
+        pass(&mut world.clients[1], 2 * CONTENDED_FOR);
+        let put = world.clients[1].write(Write::Put(row(KEY, 200)));
+        let sent = world.messages_of(1);
+        let held = is_needed.then(|| world.clients[1].hold(ROW, Purpose::Update));
+        world.deliver_to_server(&sent);
+        world.deliver_to_clients();
+        assert_eq!(put.answer.try_recv(), Ok(Ok(Outcome::Applied)));
+        assert_eq!(world.clients[1].client.holds(KEY), is_needed);
+        world.settle();
+        assert!(held.is_none_or(|held| held.answer.try_recv().is_ok()));
     }
 }
 
@@ -184,61 +170,31 @@ fn a_callback_of_what_is_pinned_takes_nothing() {
 }
 
 #[test]
-fn two_calls_read_by_one_grant() {
-    let mut world = world_that_does_not_pay();
-    let [first, second] = [0; 2].map(|_| world.clients[1].read(ROW));
-    deliver_until_answered(&mut world, &first);
-    assert!(second.answer.try_recv().is_ok());
-    let sent = kinds(&world.messages_of(1));
-    assert!(!sent.contains(&LOCK) && sent.contains(&RELEASE), "{sent:?}");
-}
-
-#[test]
-fn what_another_call_needs_is_not_given_back() {
-    let mut world = world_that_does_not_pay();
-    let held = world.clients[0].hold(KEY + 1..KEY + 2, Purpose::Write);
-    world.settle();
-    let pin = held.answer.try_recv().unwrap().unwrap().pin;
-    let [short, longer] = [ROW, KEY..KEY + 2].map(|keys| world.clients[1].read(keys));
-    deliver_until_answered(&mut world, &short);
-    assert!(world.is_cached(1, ROW), "the longer one reads it");
-    world.settle();
-    assert!(longer.answer.try_recv().is_err(), "its last row is pinned");
-    world.clients[0].unpin(pin);
-    world.settle();
-    assert!(longer.answer.try_recv().is_ok());
-    assert!(world.clients[1].open.is_empty());
-}
-
-#[test]
-fn a_job_needs_what_it_reads_changes_or_pins() {
-    let mut world = World::new();
-    let mut needs = |job: fn(&mut State)| {
-        let client = &mut world.clients[0];
-        job(client);
-        let needs: Vec<_> =
-            (8..14).filter(|key| client.open[0].1.needs(&(*key..key + 1))).collect();
-        client.refuse_all(crate::model::error::ErrorKind::TimedOut, None);
-        needs
-    };
-    assert_eq!(needs(|client| drop(client.read(9..12))), [9, 10, 11]);
-    assert_eq!(needs(|client| drop(client.write(Write::Delete(10)))), [10, 11]);
-    assert_eq!(needs(|client| drop(client.hold(9..11, Purpose::Write))), [9, 10]);
-    assert!(needs(|client| drop(client.leave())).is_empty());
-}
-
-#[test]
 fn each_time_that_it_does_not_pay_the_client_counts_again_later() {
     let mut region = Region::default();
-    let mut given_back = Vec::new();
+    let mut unkept = Vec::new();
     for turn in 0..6 {
         region.count.lost = if turn == 0 { ENOUGH } else { FEW };
-        given_back.push((0..=2 * MOST_READS).take_while(|_| !region.keeps(0, false)).count());
+        region.note_read(0, false);
+        unkept.push(region.unkept);
+        while region.unkept > 0 {
+            region.note_read(0, false);
+        }
     }
-    assert_eq!(given_back, [257, 513, 1025, 2049, 4097, 4097]);
+    assert_eq!(unkept, [256, 512, 1024, 2048, 4096, 4096]);
     region.count.lost = 1;
-    assert!(region.keeps(FEW, false) && region.gave_back == 0, "it pays");
+    region.note_read(FEW, false);
+    assert!(region.unkept == 0 && region.were_unkept == 0, "it pays");
     region.count.lost = FEW;
-    assert!(region.keeps(FEW, false), "that is little, and it has paid");
-    assert!(!region.keeps(FEW, true), "it does not pay elsewhere either");
+    region.note_read(FEW, false);
+    assert_eq!(region.unkept, 0, "that is little, and it has paid");
+    region.note_read(FEW, true);
+    assert!(region.unkept > 0, "it does not pay elsewhere either");
+}
+
+impl Keeping {
+    /// From now on the client keeps nothing for so many reads.
+    pub fn keep_nothing(&mut self) {
+        self.regions.iter_mut().for_each(|region| region.unkept = MOST_READS);
+    }
 }

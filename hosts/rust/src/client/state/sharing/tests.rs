@@ -45,6 +45,7 @@ fn put(world: &mut World, number: u64) {
 #[test]
 fn a_row_that_others_read_is_read_without_a_callback_after_a_write() {
     let mut world = wanted_by_the_other();
+    world.clients[1].keep_all();
     for number in 2..20 {
         put(&mut world, number);
         assert!(world.is_cached(0, 10..11), "the writer goes on to read it");

@@ -20,10 +20,18 @@ fn pages(peer: &mut TcpStream) -> Vec<RowPage> {
 #[test]
 fn rows_leave_when_the_store_was_asked() {
     let (mut serving, mut peer, received) = event_loop();
-    peer.write_all(&QUESTION.frame()).unwrap();
+    peer.write_all(&[&HELLO[..], &QUESTION.frame()].concat()).unwrap();
     turns_until(&mut serving, 1).unwrap();
     assert_eq!(received.lock().unwrap()[..], [0], "it had received nothing by the commit");
     assert_eq!(pages(&mut peer), [RowPage { number: 7, next: 9, rows: Vec::new() }]);
+}
+
+#[test]
+fn a_connection_of_no_client_and_no_reader_sees_no_rows() {
+    let (mut serving, mut peer, _) = event_loop();
+    peer.write_all(&QUESTION.frame()).unwrap();
+    turns_until(&mut serving, 1).unwrap();
+    assert_eq!(pages(&mut peer), [RowPage { number: 7, next: 0, rows: Vec::new() }]);
 }
 
 #[test]
