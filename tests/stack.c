@@ -48,7 +48,7 @@ static void client_status(void) { krl_client_status(&client); }
 static void server_nudge(void) { krl_server_nudge(&server, 0); }
 static void server_held(void) { krl_server_held(&server, 0); }
 static void server_next_held(void) { krl_server_next_held(&server, 0, 0); }
-static void server_read_slot(void) { krl_server_read_slot(&server, 0, 0); }
+static void server_may_read(void) { krl_server_may_read(&server, 0, 0, 1); }
 static void server_rows(void) { krl_server_rows(&server, 0, KRL_TOP, rows, ROWS); }
 static krl_lease_table table;
 static void lease_table_new(void) {
@@ -140,7 +140,7 @@ int main(void) {
     }
     void (*const calls[])(void) = {server_open, client_open, client_lock, client_scan, client_put, client_delete,
                                    client_take_put, client_take_insert, client_tick, server_nudge, server_held,
-                                   server_next_held, server_read_slot, server_rows, client_status, reader_scan,
+                                   server_next_held, server_may_read, server_rows, client_status, reader_scan,
                                    reader_scan_leased, reader_status, lease_table_new, leases, shard_of, all_parts,
                                    client_lower, client_forget, client_leave, client_close, server_close};
     for (size_t i = 0; i < sizeof calls / sizeof calls[0]; i++) {

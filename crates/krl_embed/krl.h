@@ -193,11 +193,11 @@ krl_reply krl_server_held(krl_handle *handle, uint64_t client);
  * slots from `from` on, as far as that one, at which anybody holds or waits. */
 krl_held_slot krl_server_next_held(krl_handle *handle, uint64_t client, uint64_t from);
 
-/* The slot of a point, and whether a client would get it at once to read it: the server serves, nobody waits there, and
- * no other client holds there what excludes a reader. A host that shows rows to a client without a lock asks this of
- * each slot that meets the range, from its first point on, and shows none of a slot that others keep for themselves.
- * Refused by KRL_BAD_CLIENT, and by KRL_BAD_POINT above KRL_END. */
-krl_read_slot krl_server_read_slot(krl_handle *handle, uint64_t client, uint64_t point);
+/* Whether a client would get each slot at once to read it that has one of the points from `lo` on below `hi`: the
+ * server serves, nobody waits there, and no other client holds there what excludes a reader. The detail is 1 if so,
+ * otherwise 0. A host that shows rows to a client without a lock asks this first, and shows none of what others keep
+ * for themselves. Refused by KRL_BAD_CLIENT, and by KRL_BAD_POINT if `hi` is above KRL_END. */
+krl_reply krl_server_may_read(krl_handle *handle, uint64_t client, uint64_t lo, uint64_t hi);
 
 /* The entries of the server's index with keys from `lo` on below `hi`, in key order, as many as there is room for. They
  * go into `rows`, and the detail is their count. **Nobody may see them before the host has confirmed the notes on which

@@ -361,15 +361,6 @@ typedef struct krl_waiting {
     uint32_t waits;
 } krl_waiting;
 
-/* The slot of a point. All else is 0 unless the code is KRL_DONE. */
-typedef struct krl_read_slot {
-    krl_reply reply;
-    /* The slot's last point: its entry, or KRL_END. The next slot begins after it. */
-    uint64_t slot;
-    /* 1 if the client would get it at once to read it, otherwise 0. */
-    uint64_t may_read;
-} krl_read_slot;
-
 /* What a client holds at a slot of a server. All else is 0 unless the code is KRL_DONE and it holds something. */
 typedef struct krl_held_slot {
     krl_reply reply;

@@ -1,5 +1,5 @@
 -- The entries of a range of an index, one after another.
-use Rattle.std.proofs.Common.{◌≡◌, ℕ, suc, ◌≤◌, ◌<◌, ◌∙◌, Bool, true, false, cond, List, [], ◌∷◌, ◌++◌, drop, None, Some, refl, sym, ap, subst, arith}
+use Rattle.std.proofs.Common.{◌≡◌, ℕ, suc, ◌≤◌, ◌<◌, ◌∙◌, Bool, true, false, cond, List, [], ◌∷◌, ◌++◌, length, drop, None, Some, refl, sym, ap, subst, append_assoc, arith}
 use Rattle.std.specs.Prelude.{◌&&◌, nat_le, nat_lt, slice_get}
 use Rattle.std.specs.List.{filter, AllByRecursion}
 use Rattle.std.proofs.lemmas.Bool.Decides.{nat_tests}
@@ -115,3 +115,40 @@ module _ (m : Index) (p hi : ℕ) (run : List (ℕ × Value)) (r : IsRun (map.en
     -- what a look at the first entry answers
     pub begins : e.0 < hi → BeginsBy m p hi e
     begins lt = record { from = at_or_above; below = lt; rest = first_found lt }
+
+pub first_is : (run rest : List (ℕ × Value)) (e : ℕ × Value) → run ≡ e ∷ rest → Some e ≡ slice_get run 0
+first_is run rest e is = ap (λ (xs : List (ℕ × Value)). slice_get xs 0) (sym is)
+
+pub none_is : (run : List (ℕ × Value)) → length run ≡ 0 → None ≡ slice_get run 0
+none_is [] h = refl
+none_is (e ∷ run) h = absurd (cc)
+
+below_pushed : (p : ℕ) (front : List (ℕ × Value)) (e : ℕ × Value) → p ≤ e.0 → AllByRecursion (λ x. nat_lt x.0 p ≡ true) front
+    → AllByRecursion (λ x. nat_lt x.0 (suc e.0) ≡ true) (front ++ e ∷ [])
+below_pushed p [] e le h = (let here : nat_lt e.0 (suc e.0) ≡ true = grind (arith, nat_tests) in here, tt)
+below_pushed p (x ∷ front) e le h =
+    let before : nat_lt x.0 p ≡ true = h.0 in
+    let here : nat_lt x.0 (suc e.0) ≡ true = grind (arith, nat_tests, before, le) in
+    (here, below_pushed p front e le h.1)
+
+from_above : (k : ℕ) (es : List (ℕ × Value)) → Above k es → AreFrom (suc k) es
+from_above k [] h = tt
+from_above k (e ∷ es) h =
+    let above = h.0 in
+    let here : nat_lt e.0 (suc k) ≡ false = grind (arith, nat_tests, above) in
+    (here, from_above k es h.1)
+
+-- what a search has found, after its first entry
+pub run_on : (m : Index) (p : ℕ) (run rest : List (ℕ × Value)) (e : ℕ × Value) → IsRun (map.entries m) p run → run ≡ e ∷ rest
+    → (rest ≡ [] → ⊥) → IsRun (map.entries m) (suc e.0) rest
+run_on m p run rest e r is more =
+    let first = first_is run rest e is in
+    let after : drop 1 (run ++ r.rest) ≡ rest ++ r.rest = ap (λ (xs : List (ℕ × Value)). drop 1 (xs ++ r.rest)) is in
+    record {
+      front = r.front ++ e ∷ [];
+      rest = r.rest;
+      whole = r.whole ∙ ap (λ (xs : List (ℕ × Value)). r.front ++ (xs ++ r.rest)) is ∙ sym (append_assoc r.front (e ∷ []) (rest ++ r.rest));
+      below = below_pushed p r.front e (at_or_above m p 0 run r e first) r.below;
+      from = from_above e.0 (rest ++ r.rest) (subst (Above e.0) after (above m p 0 run r e first));
+      some = λ none. absurd (more none);
+    }

@@ -1,5 +1,5 @@
 -- Who waits at a server, for whom, and what clients hold, as C sees it.
-use Rattle.std.specs.Prelude.{◌≡◌, ◌⊎◌, ◌≤◌, ◌<◌, ℕ, List, Option, Some, None, if◌then◌else◌}
+use Rattle.std.specs.Prelude.{◌≡◌, ◌⊎◌, ◌≤◌, ◌<◌, ℕ, true, false, List, Option, Some, None}
 use Rattle.krl_modes.specs.declared.limits.TheConstants.{MAX_CLIENTS}
 use Rattle.krl_queue.specs.declared.waiter.Waiter.{Waiter}
 use Rattle.krl_messages.specs.declared.holding.Holding.{Holding}
@@ -16,7 +16,6 @@ use Rattle.krl_embed.specs.declared.code.Code.TheVariants as code
 use Rattle.krl_embed.specs.declared.reply.Reply.{Reply}
 use Rattle.krl_embed.specs.declared.server_shows.Waiting.{Waiting}
 use Rattle.krl_embed.specs.declared.server_shows.HeldSlot.{HeldSlot}
-use Rattle.krl_embed.specs.declared.server_shows.ReadSlot.{ReadSlot}
 use Rattle.krl_embed.specs.Replies.{code_of}
 use Rattle.krl_embed.specs.Endpoints.{IsCode, IsUntold}
 use Rattle.krl_embed.specs.Shown.{Copies}
@@ -69,21 +68,24 @@ abbrev pub TellsNext : ℕ → ℕ → State → HeldSlot → Type 0
 TellsNext c from s r =
     OfNumber IsNoHolding c (λ r. IsCode code.Done r.reply × ShowsNext (meaning s) c from r) r
 
--- the slot of this point, and whether the client would get it at once to read it
-abbrev pub ShowsReadSlot : Server → ℕ → ℕ → ReadSlot → Type 0
-ShowsReadSlot s c p r =
-    (r.slot ≡ slot_of s.durable.index p)
-    × (r.may_read ≡ (if may_read s c (slot_of s.durable.index p) then 1 else 0))
+-- the client would get each slot at once to read it that has one of the points from lo on below hi
+abbrev pub MayReadEach : Server → ℕ → ℕ → ℕ → Type 0
+MayReadEach s c lo hi = (p : ℕ) → lo ≤ p → p < hi → may_read s c (slot_of s.durable.index p) ≡ true
 
-abbrev pub IsNoReadSlot : Code → ReadSlot → Type 0
-IsNoReadSlot c r = IsCode c r.reply × (r.slot ≡ 0) × (r.may_read ≡ 0)
+-- one of them it would not get
+abbrev pub MayNotRead : Server → ℕ → ℕ → ℕ → Type 0
+MayNotRead s c lo hi = (p : ℕ) × (lo ≤ p) × (p < hi) × (may_read s c (slot_of s.durable.index p) ≡ false)
 
--- a point above END is refused
-pub record OfPoint (p : ℕ) (Tells : ReadSlot → Type 0) (r : ReadSlot) : Type 0 where
-  pub point : p ≤ END → Tells r
-  pub above : END < p → IsNoReadSlot code.BadPoint r
+-- the detail is 1 or 0 by that
+abbrev pub ShowsReads : Server → ℕ → ℕ → ℕ → Reply → Type 0
+ShowsReads s c lo hi r =
+    (code_of r ≡ Some code.Done)
+    × (((r.detail ≡ 1) × MayReadEach s c lo hi) ⊎ ((r.detail ≡ 0) × MayNotRead s c lo hi))
 
-abbrev pub TellsReadSlot : ℕ → ℕ → State → ReadSlot → Type 0
-TellsReadSlot c p s r =
-    OfNumber IsNoReadSlot c
-    (OfPoint p (λ r. IsCode code.Done r.reply × ShowsReadSlot (meaning s) c p r)) r
+-- a range that ends above END is refused
+pub record OfRange (hi : ℕ) (Tells : Reply → Type 0) (r : Reply) : Type 0 where
+  pub within : hi ≤ END → Tells r
+  pub above : END < hi → IsCode code.BadPoint r
+
+abbrev pub TellsReads : ℕ → ℕ → ℕ → State → Reply → Type 0
+TellsReads c lo hi s r = OfNumber IsCode c (OfRange hi (ShowsReads (meaning s) c lo hi)) r

@@ -1,8 +1,8 @@
 //! A page of the entries of a server's index, as C sees it.
-ghost use Rattle.std.specs.Prelude.{◌≡◌, [], MatchOption};
+ghost use Rattle.std.specs.Prelude.{◌≡◌};
 ghost use Rattle.krl_durable.specs.Index.{range};
 ghost use Rattle.krl_embed.specs.Endpoints.{OfServer};
-ghost use Rattle.krl_embed.specs.Pages.{BeginsBy, Fills, IsNoPage, IsUnfilled, ShowsPage, rests_on};
+ghost use Rattle.krl_embed.specs.Pages.{Fills, IsNoPage, IsUnfilled, ShowsPage, rests_on};
 ghost use Rattle.krl_embed.specs.Replies.{code_of};
 
 use crate::code::Code;
@@ -35,17 +35,6 @@ impl Page {
     }
 }
 
-// The first entry from the point on, if its key is below hi.
-fn first_in(durable: &Durable, point: u64, hi: u64) -> Option<&(u64, Value)>
-    ensures { MatchOption result (range durable.now.index point hi ≡ [])
-        (λ e. BeginsBy durable.now.index point hi e.now) }
-{
-    let Some(entry) = durable.run(point).first() else {
-        return None;
-    };
-    if entry.0 < hi { Some(entry) } else { None }
-}
-
 // The entries from lo on below hi go into `rows`, as far as there is room: their number, and the
 // key at which the others begin, or hi if there are no others.
 fn fill(durable: &Durable, lo: u64, hi: u64, rows: &mut [Row]) -> (usize, u64)
@@ -53,13 +42,22 @@ fn fill(durable: &Durable, lo: u64, hi: u64, rows: &mut [Row]) -> (usize, u64)
 {
     let mut count = 0;
     let mut point = lo;
-    while let Some(entry) = first_in(durable, point, hi) {
+    let mut run = durable.run(lo);
+    while let Some((entry, rest)) = run.split_first() {
+        if entry.0 >= hi {
+            return (count, hi);
+        }
         if count == rows.len() {
             return (count, entry.0);
         }
         rows[count] = Row::of(entry.0, &entry.1);
         count += 1;
         point = entry.0 + 1;
+        run = if rest.is_empty() {
+            durable.run(point)
+        } else {
+            rest
+        };
     }
     (count, hi)
 }

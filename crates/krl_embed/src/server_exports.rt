@@ -21,7 +21,7 @@ use crate::records::RecordRow;
 use crate::reply::Reply;
 use crate::rows::Row;
 use crate::server_calls::{self, Recorded, ServerState, Stepped};
-use crate::server_shows::{self, HeldSlot, ReadSlot, Waiting};
+use crate::server_shows::{self, HeldSlot, Waiting};
 use std::alloc::Global;
 
 /// Starts a server on what was kept, with room for so many entries and grants of up to so many
@@ -228,25 +228,26 @@ pub extern "C" fn krl_server_next_held(
     held
 }
 
-/// The slot of a point, and whether a client would get it at once to read it.
+/// Whether a client would get each slot at once to read it that has one of the points from lo on
+/// below hi.
 #[unsafe(no_mangle)]
-pub extern "C" fn krl_server_read_slot(
+pub extern "C" fn krl_server_may_read(
     alloc: Global,
     handle: &mut Handle,
     client: u64,
-    point: u64,
-) -> ReadSlot
+    lo: u64,
+    hi: u64,
+) -> Reply
     ensures unchanged { handle.new.owned.value ≡ handle.old.owned.value }
-    ensures answer { Shows waits.IsNoReadSlot
-        (OfServer waits.IsNoReadSlot (waits.TellsReadSlot client point))
+    ensures answer { Shows IsCode (OfServer IsCode (waits.TellsReads client lo hi))
         handle.old.owned.value result }
 {
     let Some(endpoint) = take(alloc, handle) else {
-        return ReadSlot::blank(Code::Closed);
+        return Reply::of(Code::Closed);
     };
-    let slot = server_shows::read_slot(&endpoint, client, point);
+    let reply = server_shows::may_read(&endpoint, client, lo, hi);
     put(handle, endpoint);
-    slot
+    reply
 }
 
 /// The entries of the server's index from lo on below hi, as many as there is room for. They may be

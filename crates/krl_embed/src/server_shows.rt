@@ -1,5 +1,8 @@
 //! Who waits at a server, for whom, and what clients hold, as C sees it.
-ghost use Rattle.std.specs.Prelude.{◌≡◌, if◌then◌else◌};
+ghost use Rattle.std.specs.Prelude.{◌≤◌, ◌<◌, MatchBool};
+ghost use Rattle.krl_modes.specs.declared.limits.TheConstants.{MAX_CLIENTS};
+ghost use Rattle.krl_modes.specs.declared.point.TheConstants.{END};
+ghost use Rattle.krl_server.specs.StateMeaning.{meaning};
 ghost use Rattle.krl_embed.specs.declared.code.Code.TheVariants as code;
 ghost use Rattle.krl_embed.specs.Endpoints.{IsCode, IsUntold, OfServer};
 ghost use Rattle.krl_embed.specs.Waits as waits;
@@ -9,6 +12,7 @@ use crate::code::Code;
 use crate::endpoint::{Endpoint, Role};
 use crate::reply::Reply;
 use crate::server_calls::copy_clients;
+use krl_blocks::Finger;
 use krl_messages::Holding;
 use krl_modes::{END, MAX_CLIENTS, Point};
 use krl_queue::Waiter;
@@ -98,28 +102,6 @@ impl HeldSlot {
     }
 }
 
-/// The slot of a point, and whether a client would get it at once to read it.
-#[repr(C)]
-#[derive(Clone, Copy)]
-pub struct ReadSlot {
-    reply: Reply,
-    slot: u64,
-    may_read: u64,
-}
-
-impl ReadSlot {
-    /// No slot, by this code.
-    pub(crate) fn blank(code: Code) -> ReadSlot
-        ensures { waits.IsNoReadSlot code result }
-    {
-        ReadSlot {
-            reply: Reply::of(code),
-            slot: 0,
-            may_read: 0,
-        }
-    }
-}
-
 /// How the client waits at the server.
 pub(crate) fn waiter(endpoint: &Endpoint, client: u64) -> Waiting
     ensures { OfServer IsNoWait (waits.TellsWait client) endpoint.now.role result }
@@ -184,40 +166,50 @@ pub(crate) fn next_held(endpoint: &Endpoint, client: u64, from: u64) -> HeldSlot
     }
 }
 
-fn flag(is_so: bool) -> u64
-    ensures { result ≡ (if is_so then 1 else 0) }
+// Whether the client would get each slot at once to read it that has one of these points.
+fn may_read_each(server: &Server, client: u64, lo: u64, hi: u64) -> bool
+    requires client { client < MAX_CLIENTS }
+    requires hi { hi ≤ END }
+    ensures { MatchBool result (waits.MayReadEach (meaning server.now) client lo hi)
+        (waits.MayNotRead (meaning server.now) client lo hi) }
 {
-    if is_so { 1 } else { 0 }
-}
-
-fn read_slot_of(server: &Server, client: u64, point: u64) -> ReadSlot
-    ensures { waits.TellsReadSlot client point server.now result }
-{
-    if client >= MAX_CLIENTS as u64 {
-        return ReadSlot::blank(Code::BadClient);
-    }
-    if point > END {
-        return ReadSlot::blank(Code::BadPoint);
-    }
     let durable = server.durable();
     // By its clause `kept` the prover knows that no key is END or more, so no slot is above END.
     let _kept = durable.epoch();
-    let slot = durable.slot_of(point);
-    let may_read = server.may_read(client, Point::new(slot).unwrap());
-    ReadSlot {
-        reply: Reply::of(Code::Done),
-        slot,
-        may_read: flag(may_read),
+    let mut finger = Finger::new();
+    let mut point = lo;
+    while point < hi {
+        let slot = durable.find_by(point, &mut finger).point;
+        if !server.may_read(client, Point::new(slot).unwrap()) {
+            return false;
+        }
+        point = slot + 1;
+    }
+    true
+}
+
+fn reads_of(server: &Server, client: u64, lo: u64, hi: u64) -> Reply
+    ensures { waits.TellsReads client lo hi server.now result }
+{
+    if client >= MAX_CLIENTS as u64 {
+        return Reply::of(Code::BadClient);
+    }
+    if hi > END {
+        return Reply::of(Code::BadPoint);
+    }
+    if may_read_each(server, client, lo, hi) {
+        Reply::with(Code::Done, 1)
+    } else {
+        Reply::with(Code::Done, 0)
     }
 }
 
-/// The slot of this point, and whether the client would get it at once to read it.
-pub(crate) fn read_slot(endpoint: &Endpoint, client: u64, point: u64) -> ReadSlot
-    ensures { OfServer waits.IsNoReadSlot (waits.TellsReadSlot client point)
-        endpoint.now.role result }
+/// Whether the client would get each slot at once to read it that has one of these points.
+pub(crate) fn may_read(endpoint: &Endpoint, client: u64, lo: u64, hi: u64) -> Reply
+    ensures { OfServer IsCode (waits.TellsReads client lo hi) endpoint.now.role result }
 {
     match &endpoint.role {
-        Role::Server(server) => read_slot_of(server, client, point),
-        Role::Client(_) | Role::Left(_) => ReadSlot::blank(Code::NoServer),
+        Role::Server(server) => reads_of(server, client, lo, hi),
+        Role::Client(_) | Role::Left(_) => Reply::of(Code::NoServer),
     }
 }

@@ -122,6 +122,8 @@ pub(crate) struct State {
     ticked: Option<Instant>,
     /// In the order in which they came.
     open: Vec<(JobId, Job)>,
+    /// Room for them, which is used again.
+    spare: Vec<(JobId, Job)>,
     /// The last name that was given to a job or to a pin.
     last_name: u64,
     asking: Asking,
@@ -140,6 +142,7 @@ impl State {
             now,
             ticked: None,
             open: Vec::new(),
+            spare: Vec::new(),
             last_name: 0,
             asking: Asking::Allowed,
             watches: Watches::default(),
@@ -353,11 +356,14 @@ impl State {
         self.end_written();
         self.finish_if_leaving();
         self.free_pins();
-        for (id, job) in std::mem::take(&mut self.open) {
+        let spare = std::mem::take(&mut self.spare);
+        let mut jobs = std::mem::replace(&mut self.open, spare);
+        for (id, job) in jobs.drain(..) {
             if let Some(job) = self.advance_one(id, job) {
                 self.open.push((id, job));
             }
         }
+        self.spare = jobs;
         self.give_back();
         self.give_back_unkept();
         self.report_changes();

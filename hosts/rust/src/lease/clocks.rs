@@ -12,8 +12,9 @@ use std::time::{Instant, SystemTime};
 pub(crate) struct Now {
     /// The clock of timeouts and pauses. It stands still while the machine is suspended.
     pub monotonic: Instant,
-    /// The clock of incarnations, which operators set.
-    pub wall: SystemTime,
+    /// The clock of incarnations, which operators set. None is that of the system: it is wanted so
+    /// rarely that it is read only then.
+    wall: Option<SystemTime>,
     /// The clock of leases. None if it can't be read.
     boot: Option<Moment>,
 }
@@ -21,7 +22,12 @@ pub(crate) struct Now {
 impl Now {
     /// The clocks as they are now.
     pub fn read() -> Now {
-        Now { monotonic: Instant::now(), wall: SystemTime::now(), boot: Moment::now().ok() }
+        Now { monotonic: Instant::now(), wall: None, boot: Moment::now().ok() }
+    }
+
+    /// The clock of incarnations.
+    pub fn wall(&self) -> SystemTime {
+        self.wall.unwrap_or_else(SystemTime::now)
     }
 
     /// The clock of leases. A lease that ends does not hold if that clock can't be read.
@@ -45,7 +51,7 @@ impl Now {
         let nanoseconds = u64::try_from(moment.as_nanos()).unwrap_or(u64::MAX);
         Now {
             monotonic: *BEGAN.get_or_init(Instant::now) + moment,
-            wall: SystemTime::UNIX_EPOCH,
+            wall: Some(SystemTime::UNIX_EPOCH),
             boot: Some(Moment::of_nanoseconds(nanoseconds)),
         }
     }
@@ -61,7 +67,7 @@ impl Now {
         let nanoseconds = u64::try_from(running.as_nanos()).unwrap_or(u64::MAX);
         Now {
             monotonic: *BEGAN.get_or_init(Instant::now) + running,
-            wall: SystemTime::UNIX_EPOCH + STARTED + running,
+            wall: Some(SystemTime::UNIX_EPOCH + STARTED + running),
             boot: Some(Moment::of_nanoseconds(nanoseconds)),
         }
     }
@@ -73,6 +79,6 @@ impl Now {
     pub fn after(self, time: std::time::Duration) -> Now {
         let nanoseconds = u64::try_from(time.as_nanos()).unwrap();
         let boot = self.boot.map(|boot| Moment::of_nanoseconds(boot.nanoseconds() + nanoseconds));
-        Now { monotonic: self.monotonic + time, wall: self.wall + time, boot }
+        Now { monotonic: self.monotonic + time, wall: Some(self.wall() + time), boot }
     }
 }

@@ -117,14 +117,6 @@ pub struct RawHeldSlot {
 
 #[repr(C)]
 #[derive(Clone, Copy, Debug)]
-pub struct RawReadSlot {
-    pub reply: Reply,
-    pub slot: u64,
-    pub may_read: u64,
-}
-
-#[repr(C)]
-#[derive(Clone, Copy, Debug)]
 pub struct RawPage {
     pub reply: Reply,
     pub next: u64,
@@ -274,7 +266,7 @@ unsafe extern "C" {
     ) -> Reply;
     pub fn krl_server_held(handle: *mut Handle, client: u64) -> Reply;
     pub fn krl_server_next_held(handle: *mut Handle, client: u64, from: u64) -> RawHeldSlot;
-    pub fn krl_server_read_slot(handle: *mut Handle, client: u64, point: u64) -> RawReadSlot;
+    pub fn krl_server_may_read(handle: *mut Handle, client: u64, lo: u64, hi: u64) -> Reply;
     pub fn krl_server_rows(
         handle: *mut Handle,
         lo: u64,

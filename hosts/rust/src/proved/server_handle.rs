@@ -144,18 +144,11 @@ impl ServerHandle {
     /// Whether the client would get all slots that meet these keys at once to read them: the server
     /// serves, no other client holds there what excludes a reader, and nobody waits there.
     pub fn may_read(&mut self, client: u8, keys: &Range<u64>) -> Result<bool, Code> {
-        let (mut point, end) = (keys.start, keys.end.min(END));
-        while point < end {
-            // SAFETY: the handle stays in its place, and `&mut` gives it to this call only.
-            let found =
-                unsafe { ffi::krl_server_read_slot(self.handle.raw(), client.into(), point) };
-            done(found.reply)?;
-            if found.may_read == 0 {
-                return Ok(false);
-            }
-            point = found.slot.saturating_add(1);
-        }
-        Ok(true)
+        const MAY: u64 = 1;
+        let (lo, hi) = (keys.start, keys.end.min(END));
+        // SAFETY: the handle stays in its place, and `&mut` gives it to this call only.
+        let reply = unsafe { ffi::krl_server_may_read(self.handle.raw(), client.into(), lo, hi) };
+        Ok(done(reply)? == MAY)
     }
 
     /// The rows of the index whose keys are in this range, in ascending order, as many as there is

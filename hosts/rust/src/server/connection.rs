@@ -332,30 +332,37 @@ impl Connection {
         self.batch = Batch::NotBegun;
     }
 
-    /// Begins a batch, unless so much waits already that the peer seems stuck: then it is lost. To
-    /// a host it first sends how far the store has come, if that is news. A connection that ends
-    /// serves no client, and learns nothing of the store.
+    /// Begins a batch, unless so much waits already that the peer seems stuck: then it is lost.
     fn begin_batch(&mut self, seen: Option<Seen>) {
         if self.batch != Batch::NotBegun {
             return;
         }
         let is_lost = self.outbox.waits() >= MAX_WAITING;
         self.batch = if is_lost { Batch::Lost } else { Batch::Begun };
-        let mut first = Vec::new();
-        if let Some(host) = &mut self.host {
-            let answer = std::mem::take(&mut host.answer);
-            let news = seen.filter(|_| host.seen != seen && self.ends_for.is_none());
-            if !is_lost {
-                first.extend(answer);
-                first.extend(news.map(|now| FromServer::Mark(now).frame()).unwrap_or_default());
-                host.seen = seen;
-            }
+        let mut host_frames = std::mem::take(&mut self.host_frames);
+        if is_lost {
+            self.host.iter_mut().for_each(|host| host.answer.clear());
+        } else {
+            let news = self.take_news(seen);
+            self.put(&news);
+            self.put(host_frames.free());
         }
-        if !is_lost {
-            first.append(self.host_frames.free());
-            self.put(&first);
+        host_frames.forget_free();
+        self.host_frames = host_frames;
+    }
+
+    /// What the peer's host has not learned yet: the answer to its Hello, and how far the store has
+    /// come. A connection that ends serves no client, and learns nothing of the store.
+    fn take_news(&mut self, seen: Option<Seen>) -> Vec<u8> {
+        let Some(host) = &mut self.host else { return Vec::new() };
+        let answer = std::mem::take(&mut host.answer);
+        let is_news = std::mem::replace(&mut host.seen, seen) != seen && self.ends_for.is_none();
+        let mark = seen.filter(|_| is_news).map(|now| FromServer::Mark(now).frame());
+        match mark {
+            Some(mark) if answer.is_empty() => mark,
+            Some(mark) => [answer, mark].concat(),
+            None => answer,
         }
-        self.host_frames.free().clear();
     }
 }
 

@@ -302,11 +302,13 @@ impl Connections {
     /// A commit is made, or nothing had to be committed: the host frames that waited for it leave
     /// with the next batch, and so do the ends of connections.
     pub fn committed(&mut self) {
-        for number in std::mem::take(&mut self.waiting) {
+        let mut waiting = std::mem::take(&mut self.waiting);
+        for number in waiting.drain(..) {
             if let Some(peer) = self.in_sending(number) {
                 peer.committed();
             }
         }
+        self.waiting = waiting;
     }
 
     /// The client of this connection takes the server for what it serves.
@@ -468,7 +470,9 @@ impl Sending<'_> {
         let Sending { connections, seen } = self;
         let mut sending = std::mem::take(&mut connections.sending);
         // No client waits until all readers are written to.
-        sending.sort_by_key(|number| connections.readers.contains(number));
+        if !connections.readers.is_empty() {
+            sending.sort_by_key(|number| connections.readers.contains(number));
+        }
         for number in sending.drain(..) {
             if let Some(peer) = connections.open.get_mut(&number) {
                 peer.is_in_sending = false;

@@ -1,6 +1,6 @@
 //! To which connection a client's messages go.
 use crate::model::change::Record;
-use std::collections::HashMap;
+use crate::model::client_number::{ClientNumber, PerClient};
 
 /// What a message shows about its connection.
 #[derive(Clone, Copy, Debug, PartialEq, Eq)]
@@ -27,38 +27,43 @@ pub(crate) fn sender(record: Option<&Record>, incarnation: u64) -> Sender {
 }
 
 /// The connection on which each client was active last.
-#[derive(Debug, Default)]
-pub(crate) struct Routes {
-    connections: HashMap<u8, u64>,
+#[derive(Debug)]
+pub(crate) struct Routes(PerClient<Option<u64>>);
+
+impl Default for Routes {
+    fn default() -> Routes {
+        Routes([None; ClientNumber::COUNT as usize])
+    }
 }
 
 impl Routes {
     /// From now on the client's messages go to this connection.
     pub fn set(&mut self, client: u8, connection: u64) {
-        self.connections.insert(client, connection);
+        if let Some(route) = self.0.get_mut(usize::from(client)) {
+            *route = Some(connection);
+        }
     }
 
     /// Nothing more goes to this connection.
     pub fn close(&mut self, connection: u64) {
-        self.connections.retain(|_, to| *to != connection);
+        self.0.iter_mut().for_each(|route| *route = route.filter(|to| *to != connection));
     }
 
     /// Where the client's messages go, if it is connected.
     pub fn of(&self, client: u8) -> Option<u64> {
-        self.connections.get(&client).copied()
+        *self.0.get(usize::from(client))?
     }
 
     /// A client whose messages go to this connection, if there is one.
     pub fn client_of(&self, connection: u64) -> Option<u8> {
-        let mut routes = self.connections.iter();
-        routes.find(|(_, to)| **to == connection).map(|(client, _)| *client)
+        let mut routes = ClientNumber::all().zip(&self.0);
+        routes.find(|(_, to)| **to == Some(connection)).map(|(client, _)| client)
     }
 
     /// The clients that are connected, by number.
     pub fn clients(&self) -> Vec<u8> {
-        let mut clients: Vec<u8> = self.connections.keys().copied().collect();
-        clients.sort_unstable();
-        clients
+        let routes = ClientNumber::all().zip(&self.0);
+        routes.filter(|(_, to)| to.is_some()).map(|(client, _)| client).collect()
     }
 }
 

@@ -33,7 +33,7 @@ pub(crate) const LONGEST_TO_CLIENT: usize = GRANT_HEAD + LONGEST_HOLDING * ffi::
 pub(crate) const EMPTY: [u8; PREFIX] = [0; PREFIX];
 
 /// The bytes of a length.
-const PREFIX: usize = 8;
+pub(super) const PREFIX: usize = 8;
 
 /// How much is read at once.
 pub(crate) const GULP: usize = 1 << 14;

@@ -9,6 +9,7 @@ use crate::model::client_set::ClientSet;
 use crate::model::history::{Mark, Seen};
 use crate::model::refusal::{Refusal, STREAM_VERSION};
 use crate::model::shard_bounds::ShardBounds;
+use crate::wire::frames::PREFIX;
 use crate::wire::numbers::{self, bytes_of};
 use crate::wire::shard_frame;
 
@@ -186,9 +187,9 @@ fn spelled(refusal: Refusal) -> Vec<u8> {
 
 fn spelled_seen(seen: Seen) -> Vec<u8> {
     let Seen { mark: Mark { start, commits }, first_start } = seen;
-    let mut bytes = [&start.to_le_bytes()[..], &commits.to_le_bytes()].concat();
-    bytes.extend(first_start.map(u128::to_le_bytes).into_iter().flatten());
-    bytes
+    let first_start = first_start.map(u128::to_le_bytes);
+    let first_start = first_start.as_ref().map_or(&[][..], |bits| bits);
+    [&start.to_le_bytes(), &commits.to_le_bytes()[..], first_start].concat()
 }
 
 /// A host of an earlier release sends the mark without the first start.
@@ -223,6 +224,20 @@ pub(super) fn framed(head: &[u8], body: &[u8]) -> Vec<u8> {
     [&length.to_le_bytes(), head, body].concat()
 }
 
+/// Appends a frame with its length: this head, and what `append_body` appends after it.
+pub(super) fn append_framed(
+    head: &[u8],
+    frames: &mut Vec<u8>,
+    append_body: impl FnOnce(&mut Vec<u8>),
+) {
+    let start = frames.len();
+    frames.extend_from_slice(&[0; PREFIX]);
+    frames.extend_from_slice(head);
+    append_body(frames);
+    let length = (frames.len() - start - PREFIX) as u64;
+    frames[start..start + PREFIX].copy_from_slice(&length.to_le_bytes());
+}
+
 #[cfg(test)]
 mod tests {
     use super::*;
@@ -230,7 +245,7 @@ mod tests {
     use crate::lease::terms::{Answer, Grant, Older, Sign};
     use crate::model::row::{Row, Value};
     use crate::wire::frames::split;
-    use crate::wire::read_frame::{ReadRequest, rows_frame};
+    use crate::wire::read_frame::{ReadRequest, RowPage};
 
     const HELLO: FromServer = FromServer::Hello { answers_signs: true };
     const SEEN: Seen =
@@ -328,7 +343,7 @@ mod tests {
             FromServer::Refused(Refusal::Incarnation { client: 3, registered: 258 }).frame(),
             FromClient::ReaderHello(None).frame(),
             ReadRequest { number: 7, lo: 5, hi: 257 }.frame(),
-            rows_frame(7, 257, &[row]),
+            RowPage { number: 7, next: 257, rows: vec![row] }.frame(),
         ];
         let hexadecimal = |frame: &Vec<u8>| -> String {
             frame.iter().map(|byte| format!("{byte:02x}")).collect::<Vec<_>>().concat()

@@ -2,7 +2,7 @@
 //! `host_frame.rs` the others.
 use crate::model::row::{Row, Value};
 use crate::wire::host_frame::{self, HOST};
-use crate::wire::numbers::{self, bytes_of};
+use crate::wire::numbers;
 
 const READ: u8 = 3;
 const ROWS: u8 = 23;
@@ -31,10 +31,19 @@ pub(crate) struct RowPage {
 }
 
 impl ReadRequest {
+    /// Appends the frame, with its length.
+    pub fn append(self, frames: &mut Vec<u8>) {
+        let ReadRequest { number, lo, hi } = self;
+        host_frame::append_framed(&[HOST, READ], frames, |body| {
+            numbers::append([number, lo, hi], body);
+        });
+    }
+
     /// The frame, with its length.
     pub fn frame(self) -> Vec<u8> {
-        let ReadRequest { number, lo, hi } = self;
-        host_frame::framed(&[HOST, READ], &bytes_of([number, lo, hi]))
+        let mut frame = Vec::new();
+        self.append(&mut frame);
+        frame
     }
 
     /// The content of the frame, without its length, or `None` if it is of another kind.
@@ -59,17 +68,18 @@ impl ReadRequest {
     }
 }
 
-/// The frame of an answer, with its length: all rows from where the question of this number begins,
-/// below the next key.
-pub(crate) fn rows_frame(number: u64, next: u64, rows: &[Row]) -> Vec<u8> {
-    let mut content = bytes_of([number, next, rows.len() as u64]);
-    for Row { key, value } in rows {
-        let bytes = value.as_bytes();
-        content.extend(key.to_le_bytes());
-        content.extend(u8::try_from(bytes.len()).ok());
-        content.extend(bytes);
-    }
-    host_frame::framed(&[HOST, ROWS], &content)
+/// Appends the frame of an answer, with its length: all rows from where the question of this number
+/// begins, below the next key.
+pub(crate) fn append_rows(number: u64, next: u64, rows: &[Row], frames: &mut Vec<u8>) {
+    host_frame::append_framed(&[HOST, ROWS], frames, |body| {
+        numbers::append([number, next, rows.len() as u64], body);
+        for Row { key, value } in rows {
+            let bytes = value.as_bytes();
+            body.extend_from_slice(&key.to_le_bytes());
+            body.extend(u8::try_from(bytes.len()).ok());
+            body.extend_from_slice(bytes);
+        }
+    });
 }
 
 impl RowPage {
@@ -87,6 +97,16 @@ impl RowPage {
             rest = after;
         }
         Some(RowPage { number, next, rows })
+    }
+}
+
+#[cfg(test)]
+impl RowPage {
+    /// The frame, with its length.
+    pub fn frame(&self) -> Vec<u8> {
+        let mut frame = Vec::new();
+        append_rows(self.number, self.next, &self.rows, &mut frame);
+        frame
     }
 }
 
@@ -116,7 +136,7 @@ mod tests {
         let frame = REQUEST.frame();
         assert_eq!(ReadRequest::read(&frame[8..]), Some(REQUEST));
         for page in [page(300, &[]), page(258, &[5, 257])] {
-            let frame = rows_frame(page.number, page.next, &page.rows);
+            let frame = page.frame();
             assert_eq!(RowPage::read(&frame[8..]).as_ref(), Some(&page));
             let longer = [&frame[8..], b"more"].concat();
             assert_eq!(RowPage::read(&longer).as_ref(), Some(&page));
@@ -129,14 +149,14 @@ mod tests {
     fn the_longest_page_is_no_longer_than_the_longest_frame() {
         let value = Value::try_from([7; MAX_VALUE_BYTES]).unwrap();
         let rows: Vec<Row> = (0..PAGE as u64).map(|key| Row { key, value }).collect();
-        let frame = rows_frame(u64::MAX, 128, &rows);
+        let frame = RowPage { number: u64::MAX, next: 128, rows }.frame();
         assert!(frame.len() - 8 <= LONGEST_TO_CLIENT);
         assert_eq!(RowPage::read(&frame[8..]).map(|page| page.rows.len()), Some(PAGE));
     }
 
     #[test]
     fn a_row_with_too_long_a_value_is_not_read() {
-        let mut frame = rows_frame(7, 258, &page(258, &[5]).rows);
+        let mut frame = page(258, &[5]).frame();
         let length_at = 8 + 2 + 24 + 8;
         assert_eq!(frame[length_at], 8);
         frame[length_at] = 33;

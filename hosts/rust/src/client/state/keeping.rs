@@ -84,15 +84,18 @@ impl Count {
 }
 
 impl Region {
-    /// The client has asked the server for what it has read here. `hits` is how many scans that
-    /// begin here the cache has answered, and `loses` whether it loses more than it saves
-    /// everywhere. Returns whether the client no longer keeps what it has here.
-    fn note_read(&mut self, hits: u32, loses: bool) -> bool {
-        if self.unkept > 0 {
-            self.unkept -= 1;
-            self.count.begin(hits);
-            return false;
+    /// The client has asked the server for what it has read here, and does not keep it. `hits` is
+    /// how many scans that begin here the cache has answered.
+    fn note_unkept(&mut self, hits: impl FnOnce() -> u32) {
+        self.unkept -= 1;
+        if self.unkept == 0 {
+            self.count.begin(hits());
         }
+    }
+
+    /// The client has asked the server for what it has read here, and keeps it. `loses` is whether
+    /// it loses more than it saves everywhere. Returns whether it no longer keeps what it has here.
+    fn note_kept(&mut self, hits: u32, loses: bool) -> bool {
         let enough = if loses || self.were_unkept > 0 { FEW } else { ENOUGH };
         let pays = self.count.pays(hits, enough);
         match pays {
@@ -142,11 +145,16 @@ impl Keeping {
         if self.keeps_always(keys) {
             return;
         }
+        let place = region_of(keys.start);
+        let region = &mut self.regions[place];
+        if region.unkept > 0 {
+            region.note_unkept(|| hits.in_region(place));
+            return;
+        }
         if let Some(pays) = self.everywhere.pays(hits.all(), ENOUGH) {
             self.loses = !pays;
         }
-        let region = region_of(keys.start);
-        if self.regions[region].note_read(hits.in_region(region), self.loses) {
+        if region.note_kept(hits.in_region(place), self.loses) {
             self.given_up.push(region_around(keys.start));
         }
     }

@@ -11,8 +11,7 @@
 //! - An incarnation that has joined has ended the one before it, whose writes are no longer made. So
 //!   no rows are asked for before that.
 //! - What another client has pinned to write, nobody else reads. The server's host sends no rows of
-//!   which another client holds so much. One that has just written gives that back soon, so the
-//!   client asks once more, and then waits for a lock.
+//!   which another client holds so much, and the client waits for a lock.
 //!
 //! A connection has one question on its way. The next job that wants to ask waits for its answer.
 use super::{Asking, Job, JobId, State};
@@ -27,7 +26,6 @@ pub(super) struct Question {
     request: ReadRequest,
     /// It has not left on this connection, or is to be repeated.
     is_due: bool,
-    was_refused: bool,
 }
 
 impl State {
@@ -42,8 +40,7 @@ impl State {
         if self.held.question.is_none() {
             let number = self.next_name();
             let request = ReadRequest { number, lo: keys.start, hi: keys.end };
-            let (is_due, was_refused) = (true, false);
-            self.held.question = Some(Question { by, request, is_due, was_refused });
+            self.held.question = Some(Question { by, request, is_due: true });
         }
     }
 
@@ -63,7 +60,7 @@ impl State {
     pub(super) fn append_question(&mut self, frames: &mut Vec<u8>) {
         if let Some(question) = self.held.question.as_mut().filter(|question| question.is_due) {
             question.is_due = false;
-            frames.extend(question.request.frame());
+            question.request.append(frames);
         }
     }
 
@@ -78,12 +75,9 @@ impl State {
         self.end_lease_if_over();
         let is_answered = |question: &mut Question| question.request.number == page.number;
         let Some(question) = self.held.question.take_if(is_answered) else { return Ok(()) };
-        let Question { by, request, was_refused, .. } = question;
+        let Question { by, request, .. } = question;
         let keys = request.lo..request.hi;
-        if request.is_refused_by(&page) && !was_refused {
-            self.held.question = Some(Question { is_due: true, was_refused: true, ..question });
-            return Ok(());
-        } else if request.is_answered_by(&page) && page.next == keys.end {
+        if request.is_answered_by(&page) && page.next == keys.end {
             self.end_read(by, page);
             self.note_read(&keys);
         } else if request.is_answered_by(&page) || request.is_refused_by(&page) {

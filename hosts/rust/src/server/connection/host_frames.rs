@@ -8,37 +8,44 @@
 /// The frames of a host, by whether they wait for a commit.
 #[derive(Debug, Default)]
 pub(super) struct HostFrames {
-    /// They wait for the next commit. An empty one is the end of the connection.
-    waiting: Option<Vec<u8>>,
-    /// They may leave.
-    free: Vec<u8>,
+    frames: Vec<u8>,
+    /// So many bytes of them may leave.
+    free: usize,
+    /// Something waits for the next commit: frames, or the end of the connection.
+    is_waiting: bool,
 }
 
 impl HostFrames {
     /// Something waits for the next commit. Returns whether nothing did before.
     pub fn waits(&mut self) -> bool {
-        let is_first = self.waiting.is_none();
-        self.waiting.get_or_insert_default();
-        is_first
+        !std::mem::replace(&mut self.is_waiting, true)
     }
 
     pub fn put(&mut self, frame: &[u8]) {
-        self.waiting.get_or_insert_default().extend_from_slice(frame);
+        self.is_waiting = true;
+        self.frames.extend_from_slice(frame);
     }
 
     /// Whether something waits for a commit.
     pub fn is_waiting(&self) -> bool {
-        self.waiting.is_some()
+        self.is_waiting
     }
 
     /// The commit is made, or nothing had to be committed.
     pub fn committed(&mut self) {
-        self.free.append(&mut self.waiting.take().unwrap_or_default());
+        self.free = self.frames.len();
+        self.is_waiting = false;
     }
 
     /// What may leave.
-    pub fn free(&mut self) -> &mut Vec<u8> {
-        &mut self.free
+    pub fn free(&self) -> &[u8] {
+        &self.frames[..self.free]
+    }
+
+    /// What may leave has left, or is lost.
+    pub fn forget_free(&mut self) {
+        self.frames.drain(..self.free);
+        self.free = 0;
     }
 }
 
@@ -55,7 +62,9 @@ mod tests {
         host_frames.committed();
         assert!(!host_frames.is_waiting());
         host_frames.put(b"second");
-        assert_eq!(std::mem::take(host_frames.free()), b"first");
+        assert_eq!(host_frames.free(), b"first");
+        host_frames.forget_free();
+        assert!(host_frames.free().is_empty() && host_frames.is_waiting());
         host_frames.committed();
         assert_eq!(host_frames.free(), b"second");
     }

@@ -59,7 +59,7 @@ impl EventLoop {
         let hello = hello.and_then(|head| Some((head.client()?, head.incarnation)));
         let Some((client, incarnation)) = hello else { return Ok(true) };
         let registered = self.leases.registered(client);
-        let latest = ahead::latest(registered, now.wall);
+        let latest = ahead::latest(registered, now.wall());
         if incarnation > latest {
             self.log.far_ahead(&self.connections.at(connection), client, incarnation);
             self.connections.refuse(connection, Refusal::FarAhead { client, latest });

@@ -12,7 +12,7 @@ use crate::server::connections::MAX_READERS;
 use crate::server::error::ServeError;
 use crate::wire::host_frame::FromClient;
 use crate::wire::incoming::Incoming;
-use crate::wire::read_frame::{PAGE, ReadRequest, rows_frame};
+use crate::wire::read_frame::{PAGE, ReadRequest, append_rows};
 use std::collections::BTreeMap;
 use std::mem;
 use std::ops::Range;
@@ -28,8 +28,9 @@ const QUIET: Duration = Duration::from_millis(1);
 #[derive(Debug, Default)]
 pub(super) struct Reads {
     waiting: BTreeMap<u64, ReadRequest>,
-    /// Room for the rows of one answer.
+    /// Room for the rows of one answer, and for its frame.
     room: Vec<Row>,
+    frame: Vec<u8>,
     /// When readers have had no more than their part of the time.
     even_at: Option<Instant>,
     /// Until then clients are about to send more.
@@ -118,20 +119,24 @@ impl EventLoop {
     pub(super) fn answer_reads(&mut self) -> Result<(), ServeError> {
         self.reads.room.resize(PAGE, Row::default());
         for (connection, request) in mem::take(&mut self.reads.waiting) {
-            let frame = self.answer(connection, request).map_err(ServeError::Refused)?;
-            self.connections.send_after_commit(connection, &frame);
+            self.answer(connection, request).map_err(ServeError::Refused)?;
         }
         Ok(())
     }
 
-    /// The rows that a question is for, as many as one answer has; or none, if another client keeps
-    /// some of them from the one that asks.
-    fn answer(&mut self, connection: u64, request: ReadRequest) -> Result<Vec<u8>, Code> {
+    /// Sends the rows that a question is for, as many as one answer has; or none, if another client
+    /// keeps some of them from the one that asks.
+    fn answer(&mut self, connection: u64, request: ReadRequest) -> Result<(), Code> {
         let ReadRequest { number, lo, hi } = request;
         let (rows, next) = self.server.rows(lo..hi, &mut self.reads.room)?;
-        let frame = rows_frame(number, next, rows);
+        let count = rows.len();
         let is_shown = self.may_see(connection, &(lo..next))?;
-        Ok(if is_shown { frame } else { rows_frame(number, lo, &[]) })
+        let (next, count) = if is_shown { (next, count) } else { (lo, 0) };
+        let Reads { room, frame, .. } = &mut self.reads;
+        frame.clear();
+        append_rows(number, next, &room[..count], frame);
+        self.connections.send_after_commit(connection, frame);
+        Ok(())
     }
 
     /// Whether the rows of these keys are shown on the connection. A client sees none that a lock

@@ -175,20 +175,20 @@ fn each_time_that_it_does_not_pay_the_client_counts_again_later() {
     let mut unkept = Vec::new();
     for turn in 0..6 {
         region.count.lost = if turn == 0 { ENOUGH } else { FEW };
-        region.note_read(0, false);
+        region.note_kept(0, false);
         unkept.push(region.unkept);
         while region.unkept > 0 {
-            region.note_read(0, false);
+            region.note_unkept(|| 0);
         }
     }
     assert_eq!(unkept, [256, 512, 1024, 2048, 4096, 4096]);
     region.count.lost = 1;
-    region.note_read(FEW, false);
+    region.note_kept(FEW, false);
     assert!(region.unkept == 0 && region.were_unkept == 0, "it pays");
     region.count.lost = FEW;
-    region.note_read(FEW, false);
+    region.note_kept(FEW, false);
     assert_eq!(region.unkept, 0, "that is little, and it has paid");
-    region.note_read(FEW, true);
+    region.note_kept(FEW, true);
     assert!(region.unkept > 0, "it does not pay elsewhere either");
 }
 

@@ -190,18 +190,32 @@ fn what_another_client_has_pinned_to_write_is_not_read() {
 }
 
 #[test]
-fn what_another_client_has_just_written_is_asked_for_once_more() {
+fn each_slot_that_a_range_meets_has_to_be_free_for_readers() {
+    for (pinned, is_shown) in [(1, true), (2, false), (3, false), (4, false), (5, false), (6, true)]
+    {
+        let mut world = world();
+        let held = world.clients[0].hold(pinned..pinned + 1, Purpose::Write);
+        world.settle();
+        assert!(held.answer.try_recv().is_ok());
+        let mut may_read = |client, keys| world.server.may_read(client, &keys).unwrap();
+        assert_eq!(may_read(1, 2..6), is_shown, "{pinned}");
+        assert!(may_read(0, 2..6), "it has pinned them itself");
+        assert!(may_read(1, 3..3) && may_read(1, 7..10));
+        // The gap after the last row ends at END, and client 0 still has that.
+        assert!(!may_read(1, 7..END) && !may_read(1, 7..u64::MAX));
+    }
+}
+
+#[test]
+fn what_another_client_has_just_written_is_read_by_a_lock() {
     let mut world = world();
     assert_eq!(world.write(0, Write::Put(row(3, 1))), Outcome::Applied);
     let (read, sent) = read(&mut world, 2..5);
     world.deliver_to_server(&sent);
     world.deliver_to_clients();
-    let again = world.messages_of(1);
-    assert_eq!(again, sent, "the same question");
-    drop(world.clients[0].forget(0..END));
+    assert!(read.answer.try_recv().is_err() && world.messages_of(1).is_empty());
+    world.round();
     world.settle();
-    world.deliver_to_server(&again);
-    world.deliver_to_clients();
     assert_eq!(read.answer.try_recv(), Ok(Ok(vec![row(2, 0), row(3, 1), row(4, 0)])));
-    assert!(!world.clients[1].client.holds(3));
+    assert!(!world.clients[1].client.holds(3), "it is given back");
 }
