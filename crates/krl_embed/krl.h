@@ -193,7 +193,7 @@ krl_reply krl_server_held(krl_handle *handle, uint64_t client);
  * slots from `from` on, as far as that one, at which anybody holds or waits. */
 krl_held_slot krl_server_next_held(krl_handle *handle, uint64_t client, uint64_t from);
 
-/* Whether a client would get each slot at once to read it that has one of the points from `lo` on below `hi`: the
+/* Whether a client would get at once, to read it, each slot that has one of the points from `lo` on below `hi`: the
  * server serves, nobody waits there, and no other client holds there what excludes a reader. The detail is 1 if so,
  * otherwise 0. A host that shows rows to a client without a lock asks this first, and shows none of what others keep
  * for themselves. Refused by KRL_BAD_CLIENT, and by KRL_BAD_POINT if `hi` is above KRL_END. */

@@ -35,6 +35,12 @@ part_leases() {
     drive 0 'a hasty client' "$drive" haste "$memory/haste"
 }
 
+part_large_stores() {
+    has etcd || not_run 'there is no etcd: stores of the greatest room'
+    need_programs
+    drive 0 'stores of the greatest room' "$drive" large-stores "$work/large-stores"
+}
+
 part_strangers() {
     need_programs
     drive 0 'strings' "$drive" strings 1000000 100000

@@ -88,8 +88,6 @@ part_failover() {
     has etcd || not_run 'there is no etcd: servers that stand by'
     need_programs
     keep_in_memory
-    drive 0 'stores of the greatest room' "$drive" large-stores "$work/large-stores"
-    rm -rf "$work/large-stores"
     drive 0 'a frozen server, noticed by a client that only reads' \
         "$drive" frozen "$memory/frozen" 2 "$programs/krl-server"
     sums >"$work/sums"

@@ -8,9 +8,14 @@ use Rattle.std.specs.FinMap as map
 use Rattle.krl_messages.specs.Values.{Value}
 use Rattle.krl_blocks.specs.Entries.{IsRun, AreFrom}
 use Rattle.krl_durable.specs.Index.{Index, range}
-use Rattle.krl_embed.specs.Pages.{BeginsBy}
 use Rattle.krl_durable.proofs.Slots.{Above, Rises, rises, none_pass, weaker, head_some}
 use Rattle.krl_durable.proofs.Kept.{sorted_entries}
+
+-- the range begins by this entry, and the rest of it follows
+pub record BeginsBy (m : Index) (lo hi : ℕ) (e : ℕ × Value) : Type 0 where
+  pub from : lo ≤ e.0
+  pub below : e.0 < hi
+  pub rest : range m lo hi ≡ e ∷ range m (suc e.0) hi
 
 abbrev within : ℕ → ℕ → ℕ → Bool
 within lo hi k = nat_le lo k && nat_lt k hi

@@ -1,7 +1,7 @@
 -- A page of the entries of a server's index, as C sees it.
-use Rattle.std.specs.Prelude.{◌≡◌, ◌≤◌, ◌<◌, ℕ, suc, List, [], ◌∷◌, ◌++◌, length, take, drop, map, Option, Some, None}
+use Rattle.std.specs.Prelude.{◌≡◌, ℕ, List, [], ◌∷◌, ◌++◌, length, take, drop, map, Option, Some, None}
 use Rattle.krl_messages.specs.Values.{Value}
-use Rattle.krl_durable.specs.Index.{Index, range}
+use Rattle.krl_durable.specs.Index.{range}
 use Rattle.krl_server.specs.declared.state.State.{State}
 use Rattle.krl_server.specs.StateMeaning as servers
 use Rattle.krl_embed.specs.declared.code.Code.{Code}
@@ -14,12 +14,6 @@ use Rattle.krl_embed.specs.Endpoints.{IsCode}
 use Rattle.krl_embed.specs.Notes.{shown}
 use Rattle.krl_embed.specs.Replies.{code_of}
 use Rattle.krl_embed.specs.Rows.{row_of}
-
--- the range begins by this entry, and the rest of it follows
-pub record BeginsBy (m : Index) (lo hi : ℕ) (e : ℕ × Value) : Type 0 where
-  pub from : lo ≤ e.0
-  pub below : e.0 < hi
-  pub rest : range m lo hi ≡ e ∷ range m (suc e.0) hi
 
 -- the first key, or this one if there is none
 abbrev pub first_or : ℕ → List (ℕ × Value) → ℕ

@@ -68,11 +68,11 @@ abbrev pub TellsNext : ℕ → ℕ → State → HeldSlot → Type 0
 TellsNext c from s r =
     OfNumber IsNoHolding c (λ r. IsCode code.Done r.reply × ShowsNext (meaning s) c from r) r
 
--- the client would get each slot at once to read it that has one of the points from lo on below hi
+-- the client would get at once, to read it, each slot that has one of the points from lo on below hi
 abbrev pub MayReadEach : Server → ℕ → ℕ → ℕ → Type 0
 MayReadEach s c lo hi = (p : ℕ) → lo ≤ p → p < hi → may_read s c (slot_of s.durable.index p) ≡ true
 
--- one of them it would not get
+-- it would not get one of them
 abbrev pub MayNotRead : Server → ℕ → ℕ → ℕ → Type 0
 MayNotRead s c lo hi = (p : ℕ) × (lo ≤ p) × (p < hi) × (may_read s c (slot_of s.durable.index p) ≡ false)
 

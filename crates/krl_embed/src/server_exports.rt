@@ -228,7 +228,7 @@ pub extern "C" fn krl_server_next_held(
     held
 }
 
-/// Whether a client would get each slot at once to read it that has one of the points from lo on
+/// Whether a client would get at once, to read it, each slot that has one of the points from lo on
 /// below hi.
 #[unsafe(no_mangle)]
 pub extern "C" fn krl_server_may_read(

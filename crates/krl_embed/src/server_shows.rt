@@ -166,7 +166,7 @@ pub(crate) fn next_held(endpoint: &Endpoint, client: u64, from: u64) -> HeldSlot
     }
 }
 
-// Whether the client would get each slot at once to read it that has one of these points.
+// Whether the client would get at once, to read it, each slot that has one of these points.
 fn may_read_each(server: &Server, client: u64, lo: u64, hi: u64) -> bool
     requires client { client < MAX_CLIENTS }
     requires hi { hi ≤ END }
@@ -204,7 +204,7 @@ fn reads_of(server: &Server, client: u64, lo: u64, hi: u64) -> Reply
     }
 }
 
-/// Whether the client would get each slot at once to read it that has one of these points.
+/// Whether the client would get at once, to read it, each slot that has one of these points.
 pub(crate) fn may_read(endpoint: &Endpoint, client: u64, lo: u64, hi: u64) -> Reply
     ensures { OfServer IsCode (waits.TellsReads client lo hi) endpoint.now.role result }
 {

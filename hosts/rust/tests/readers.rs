@@ -157,13 +157,17 @@ fn readers_take_no_place_of_a_client() {
 }
 
 #[test]
-fn a_reader_speaks_for_no_client() {
+fn a_message_of_a_client_is_denied_to_a_reader() {
     let server = server();
     let mut peer = Peer::new(&server);
     peer.send(&READER_HELLO);
     peer.send(&frame(HELLO, 3, 1, &[]));
-    wait_until(|| server.status().denied == 1);
-    assert_eq!(server.status().taken, 0);
+    let judged = || {
+        let status = server.status();
+        (status.denied, status.taken)
+    };
+    wait_until(|| judged() != (0, 0));
+    assert_eq!(judged(), (1, 0));
 }
 
 #[test]

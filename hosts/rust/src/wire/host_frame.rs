@@ -220,8 +220,9 @@ fn refusal(reason: u8, bytes: &[u8]) -> Option<Refusal> {
 
 /// A frame with its length: the head, and then the body.
 pub(super) fn framed(head: &[u8], body: &[u8]) -> Vec<u8> {
-    let length = (head.len() + body.len()) as u64;
-    [&length.to_le_bytes(), head, body].concat()
+    let mut frame = Vec::new();
+    append_framed(head, &mut frame, |frame| frame.extend_from_slice(body));
+    frame
 }
 
 /// Appends a frame with its length: this head, and what `append_body` appends after it.

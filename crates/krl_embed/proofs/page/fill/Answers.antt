@@ -6,8 +6,7 @@ use Rattle.krl_blocks.specs.Entries.{IsRun}
 use Rattle.krl_durable.specs.Index.{Index, range}
 use Rattle.krl_embed.specs.declared.rows.Row.{Row}
 use Rattle.krl_embed.specs.Rows.{row_of}
-use Rattle.krl_embed.specs.Pages.{BeginsBy}
-use Rattle.krl_embed.proofs.PageLemmas.{first_is, none_is, none_found, begins, beyond, run_on}
+use Rattle.krl_embed.proofs.PageLemmas.{BeginsBy, first_is, none_is, none_found, begins, beyond, run_on}
 use Rattle.krl_embed.proofs.RowsLemmas.{popped, copied_one}
 use Rattle.krl_embed.proofs.FilledLemmas.{ended, full}
 use Rattle.krl_embed.proofs.page.fill.Goals as goal
@@ -50,21 +49,17 @@ returns-then-entry-hi c =
     c.loop-entry.count c.loop-entry.invariant.within c.loop-entry.invariant.room
     (c.loop-entry.invariant.left ∙ none) c.loop-entry.invariant.rows
 
-begun : (index : Index) (point hi : ℕ) (run rest : List (ℕ × Value)) (e : ℕ × Value) → IsRun (fin.entries index) point run
-    → run ≡ e ∷ rest → e.0 < hi → BeginsBy index point hi e
-begun index point hi run rest e r is lt = begins index point hi run r e (first_is run rest e is) lt
-
 pub returns-then-count-rows : goal.returns-then-count-rows
 returns-then-count-rows c =
     let index = c.args.durable.now.index in let e : ℕ × Value = c.in-Some.entry.now in
-    let first = begun index c.loop-entry.point c.args.hi c.loop-entry.run.now c.in-Some.rest.now e c.loop-entry.invariant.run c.in-Some.ensures.cases.0 c.if-entry-hi.false in
+    let first = begins index c.loop-entry.point c.args.hi c.loop-entry.run.now c.loop-entry.invariant.run e (first_is c.loop-entry.run.now c.in-Some.rest.now e c.in-Some.ensures.cases.0) c.if-entry-hi.false in
     full (range index c.args.lo c.args.hi) c.args.hi c.args.rows.now c.loop-entry.rows c.loop-entry.count e (range index (suc e.0) c.args.hi)
     c.loop-entry.invariant.within (omega (arith, c.if-count-rows.true, c.loop-entry.auto.rows)) (c.loop-entry.invariant.left ∙ first.rest) c.loop-entry.invariant.rows
 
 pub loop-entry-preserved-then-is_empty : goal.loop-entry-preserved-then-is_empty
 loop-entry-preserved-then-is_empty c =
     let index = c.args.durable.now.index in let e : ℕ × Value = c.in-Some.entry.now in
-    let first = begun index c.loop-entry.point c.args.hi c.loop-entry.run.now c.in-Some.rest.now e c.loop-entry.invariant.run c.in-Some.ensures.cases.0 c.if-entry-hi.false in
+    let first = begins index c.loop-entry.point c.args.hi c.loop-entry.run.now c.loop-entry.invariant.run e (first_is c.loop-entry.run.now c.in-Some.rest.now e c.in-Some.ensures.cases.0) c.if-entry-hi.false in
     let room : c.loop-entry.count < length c.args.rows.now =
     omega (arith, c.loop-entry.invariant.room, c.if-count-rows.false, c.loop-entry.auto.rows) in
     let done = copied index c.args.lo c.args.hi c.loop-entry.point c.args.rows.now c.loop-entry.rows c.loop-entry.count e c.of.result first
@@ -74,7 +69,7 @@ loop-entry-preserved-then-is_empty c =
 pub loop-entry-preserved : goal.loop-entry-preserved
 loop-entry-preserved c =
     let index = c.args.durable.now.index in let e : ℕ × Value = c.in-Some.entry.now in let rest = c.in-Some.rest.now in
-    let first = begun index c.loop-entry.point c.args.hi c.loop-entry.run.now rest e c.loop-entry.invariant.run c.in-Some.ensures.cases.0 c.if-entry-hi.false in
+    let first = begins index c.loop-entry.point c.args.hi c.loop-entry.run.now c.loop-entry.invariant.run e (first_is c.loop-entry.run.now rest e c.in-Some.ensures.cases.0) c.if-entry-hi.false in
     let room : c.loop-entry.count < length c.args.rows.now =
     omega (arith, c.loop-entry.invariant.room, c.if-count-rows.false, c.loop-entry.auto.rows) in
     let done = copied index c.args.lo c.args.hi c.loop-entry.point c.args.rows.now c.loop-entry.rows c.loop-entry.count e c.of.result first
