@@ -30,7 +30,6 @@ class Crate:
         files = [*(self.folder / "src").rglob("*.rt"), *(self.folder / "specs").rglob("*.antt")]
         self.source = {str(it.relative_to(self.folder)): it.read_text(encoding="utf-8") for it in sorted(files)}
         self.root = next(it for it in ROOTS if it in self.source)
-        self.length = sum(map(len, self.source.values()))
 
     def lacking_library(self):
         """A library below that is not built, if there is one."""

@@ -15,6 +15,8 @@ CONSTANT = re.compile(r"(?m)^ *(?:pub(?:\([a-z]+\))? )?(?:const|static) (\w+):")
 Edit = namedtuple("Edit", "label changes functions why")
 # Edits of one crate that are tried in one check.
 Round = namedtuple("Round", "crate edits")
+# How many wrong definitions are tried in one check, which takes up to 1.6 GB then.
+DEFINITIONS = 10
 
 
 def changed_by(crate, path, at):
@@ -39,17 +41,17 @@ def changed_by(crate, path, at):
 
 def read_edit(crate, file):
     """Reads an edit, and finds out whose it is."""
-    label, path, old, changes, functions = f"{crate.name}/{file.name}", "", "", [], set()
+    label, path, old, changes, named, changed = f"{crate.name}/{file.name}", "", "", [], set(), set()
     bad = lambda why: Edit(label, [], set(), why)
     for line in file.read_text(encoding="utf-8").split("\n"):
         word, _, rest = line.partition(":")
         rest = rest[rest[:1] == " " :]
         if word == "file":
             path = rest.strip()
-        elif word == "law":
+        elif word in ("law", "function"):
             if f"{crate.name}::{rest}" not in crate.functions:
-                return bad(f"{rest} is no law that is proved")
-            functions.add(f"{crate.name}::{rest}")
+                return bad(f"{rest} is no {word} that is proved")
+            named.add(f"{crate.name}::{rest}")
         elif word == "old":
             old = rest
         elif word == "new":
@@ -60,7 +62,8 @@ def read_edit(crate, file):
                 return bad(f"its old text stands in {path} {found} times: {old}")
             changes.append((path, old, rest))
             if not is_definition(path):
-                functions |= changed_by(crate, path, crate.source[path].index(old))
+                changed |= changed_by(crate, path, crate.source[path].index(old))
+    functions = named or changed
     return Edit(label, changes, functions, None) if functions else bad("it changes no proved function, nor names a law")
 
 
@@ -83,18 +86,19 @@ def changes_a_definition(edit):
 
 
 def stands_alone(edit):
-    """Whether the edit would be in the way of others: it changes a definition, which many laws cite, or the head of a
-    function, which its callers see."""
-    return changes_a_definition(edit) or any(HEAD.search(old) for _, old, _ in edit.changes)
+    """Whether the edit would be in the way of others: it changes the head of a function, which its callers see."""
+    return any(HEAD.search(old) for _, old, _ in edit.changes)
 
 
 def first_round(crate, edits):
-    """As many of the edits as change different functions; or one that stands alone."""
+    """As many of the edits as change different functions; or one that stands alone; or some that change definitions."""
+    if changes_a_definition(edits[0]):
+        return [it for it in edits if changes_a_definition(it)][:DEFINITIONS]
     if stands_alone(edits[0]):
         return edits[:1]
     taken, changed, source = [], set(), crate.source
     for edit in edits:
-        is_apart = changed & edit.functions or stands_alone(edit)
+        is_apart = changed & edit.functions or stands_alone(edit) or changes_a_definition(edit)
         texts = None if is_apart else edited(source, edit)
         if texts:
             taken, changed, source = [*taken, edit], changed | edit.functions, texts

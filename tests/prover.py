@@ -6,13 +6,14 @@ import subprocess
 import tempfile
 
 from crates import HEAD, functions_in, libraries, names_of
+from definitions import Modules, folder_of, law_of, publish, write_definition
 from edits import changes_a_definition, edited
 
 # A line of a contract, whose braces are not those of a body.
 CLAUSE = re.compile(r" *(requires|ensures|ghost)\b")
 
 # What the prover reports if a proof cites a name that is not there, or another proof that cites one.
-NAME_GONE = re.compile(r"has no field|is not in scope|has no `|was not admitted")
+NAME_GONE = re.compile(r"has no field|is not in scope|has no `|was not admitted|is private to")
 
 
 def write_copy(crate, edits, changed, room):
@@ -97,20 +98,37 @@ def functions_of(crate, kit):
     return sorted(set(re.findall(rf"(?m)^fn ({crate.name}::\S+): proved", ran.stdout)))
 
 
-def check(crate, edits, changed, kit, log, kept):
-    """Checks the functions of a copy of the crate with these edits, and returns what the prover printed. Checks with
-    one folder `kept` share what no edit changes."""
-    with tempfile.TemporaryDirectory(prefix="wrong-bodies-") as room:
-        write_copy(crate, edits, changed, pathlib.Path(room))
-        words = prover_words(crate, changed, kit, kept)
-        how = {"cwd": room, "stdin": subprocess.DEVNULL, "text": True, "errors": "replace"}
-        ran = subprocess.run(words, stdout=subprocess.PIPE, stderr=subprocess.STDOUT, **how)
+def asked(crate, functions, room, kit, log, kept):
+    """Asks the prover about these functions of the copy in `room`, and returns what it printed. Checks with one folder
+    `kept` share what no edit changes."""
+    words = prover_words(crate, functions, kit, kept)
+    how = {"cwd": room, "stdin": subprocess.DEVNULL, "text": True, "errors": "replace"}
+    ran = subprocess.run(words, stdout=subprocess.PIPE, stderr=subprocess.STDOUT, **how)
     killed = "error: the check was killed, most likely for memory\n" if ran.returncode < 0 else ""
     said = killed + ran.stdout
     if log:
         with open(log, "a", encoding="utf-8") as it:
             it.write(f"== {crate.name}\n{said}")
     return said
+
+
+def check(crate, edits, changed, kit, log, kept):
+    """Checks the functions of a copy of the crate with these edits, and returns what the prover printed."""
+    with tempfile.TemporaryDirectory(prefix="wrong-bodies-") as room:
+        write_copy(crate, edits, changed, pathlib.Path(room))
+        return asked(crate, changed, room, kit, log, kept)
+
+
+def check_definitions(crate, edits, is_control, kit, log, kept):
+    """Checks the laws of these wrong definitions as they stand, and each over copies with its edit, and returns what
+    the prover printed, and its names of the laws over copies. As a control the copies are not edited."""
+    laws, modules = {it for edit in edits for it in edit.functions}, Modules(crate)
+    with tempfile.TemporaryDirectory(prefix="wrong-bodies-") as name:
+        room = pathlib.Path(name)
+        write_copy(crate, [], laws, room)
+        publish(room)
+        copies = [write_definition(modules, edit, is_control, number, room) for number, edit in enumerate(edits)]
+        return asked(crate, laws | set(copies), room, kit, log, kept), copies
 
 
 # ---- What the prover printed
@@ -132,46 +150,70 @@ def errors_in(folder, said):
     return re.findall(rf"(?m)^(?:\./)?{folder}/[^:]*:\d+:\d+: error: (.*)$", said)
 
 
-def verdict(function, said, cites_changed):
-    """What was reported of the function: 'proved', 'open' if a goal of it is open, 'gone' if only names are
-    gone that its proof cites, or the prover's own words. If it cites a changed definition, a goal of a lemma that it
-    stands on counts as its own."""
+def proof_of(function):
+    """The folder of the function's own proof, as a pattern."""
+    *above, name = [re.escape(it) for it in function.split("::")[1:]]
+    return "/".join(["proofs", *above, rf"\+?{name}"])
+
+
+def verdict(function, said, folder):
+    """What was reported of the function: 'proved', 'open' if a goal of it is open, 'gone' if only names are gone that
+    its proof cites, or the prover's own words. Its goals are those in the folder, which is a pattern."""
     found = re.search(rf"(?m)^fn {re.escape(function)}: (.*)$", said)
     line = found[1] if found else "nothing was reported of it"
     if re.match("no holes|depends on a hole", line):
         return "proved"
     if re.match("no proof: .*`search` did not prove", line):
         return "open"
-    *above, name = [re.escape(it) for it in function.split("::")[1:]]
-    errors = errors_in("proofs" if cites_changed else "/".join(["proofs", *above, rf"\+?{name}"]), said)
+    errors = errors_in(folder, said)
     if not line.startswith("not proved") or not errors:
         return line[:200]
     return "gone" if all(NAME_GONE.search(it) for it in errors) else "open"
 
 
-def judge(edit, said, is_control):
-    """Whether all is well with the edit, and the words that report it."""
-    is_of_law = changes_a_definition(edit)
-    if is_of_law and errors_in("specs", said):
-        return False, f"BAD EDIT: the prover refuses the definitions themselves: {first_error(said)}"
-    found = {it: verdict(it, said, is_of_law) for it in sorted(edit.functions)}
+def judge(found, is_control, refused):
+    """Whether all is well with an edit of which this was reported, and the words that report it."""
     if is_control:
         well = all(it == "proved" for it in found.values())
         return well, "proved as it stands" if well else f"NOT PROVED AS IT STANDS: {found}"
     if "open" in found.values():
-        return True, f"refused by {', '.join(found)}" if is_of_law else "refused"
+        return True, refused
     if "gone" in found.values():
         return False, "REFUSED ONLY SINCE A NAME IS GONE: change a value, and keep what the proof cites"
     return False, f"NOT REFUSED: {found}"
 
 
+def judge_body(edit, said, is_control):
+    """Whether all is well with the edit of functions, and the words that report it."""
+    return judge({it: verdict(it, said, proof_of(it)) for it in sorted(edit.functions)}, is_control, "refused")
+
+
+def judge_definition(edit, number, copy, said, is_control):
+    """Whether all is well with the edit of definitions, and the words that report it. A goal of a lemma that its law
+    stands on counts as one of the law."""
+    (law,) = edit.functions
+    as_it_stands = verdict(law, said, "proofs")
+    if as_it_stands != "proved":
+        return False, f"NOT PROVED AS IT STANDS: {as_it_stands}"
+    faults = errors_in(f"specs/{folder_of(number)}", said)
+    if faults:
+        return False, f"BAD EDIT: the prover refuses the definitions themselves: {faults[0][:200]}"
+    found = {law: verdict(copy, said, f"proofs/(?:{folder_of(number)}|{law_of(number)})")}
+    return judge(found, is_control, f"refused by {law}")
+
+
 def tried(crate, edits, kit, is_control, log, kept):
     """Tries these edits, and returns each with its judgement: in one check, if the prover can read them together.
     Edits that are read by themselves may not be read together, as when they make two functions call each other."""
-    changed = {it for edit in edits for it in edit.functions}
-    said = check(crate, [] if is_control else edits, changed, kit, log, kept)
+    if changes_a_definition(edits[0]):
+        said, copies = check_definitions(crate, edits, is_control, kit, log, kept)
+        judged = [judge_definition(it, i, copies[i], said, is_control) for i, it in enumerate(edits)]
+    else:
+        changed = {it for edit in edits for it in edit.functions}
+        said = check(crate, [] if is_control else edits, changed, kit, log, kept)
+        judged = [judge_body(it, said, is_control) for it in edits]
     if is_read(said):
-        return [(it, *judge(it, said, is_control)) for it in edits]
+        return [(it, *judgement) for it, judgement in zip(edits, judged)]
     if len(edits) == 1 or is_control:
         return [(it, False, f"BAD EDIT: the prover can't read it: {first_error(said)}") for it in edits]
     half = len(edits) // 2

@@ -60,6 +60,7 @@ part_wrong() {
 # Each other one, which the drive has to find.
 part_wrong_drives() {
     need_programs
+    find_heedless
     sums >"$work/sums"
     for edit in "$top"/hosts/drive/wrong/*.edit; do
         ! grep -q '^test: ' "$edit" || continue
@@ -81,6 +82,21 @@ part_wrong_drives() {
     compare_sums
 }
 
+# Finds servers that heed no store, $heedless. They are built once for the programs that are there: before the
+# failovers, next to which nothing else is to run.
+find_heedless() {
+    heedless=$CARGO_TARGET_DIR/heedless/krl-server
+    made_of=$(cksum "$programs/krl-server" "$top/hosts/drive/heedless.edit")
+    [ "$made_of" != "$(cat "$heedless.made_of" 2>/dev/null)" ] || return 0
+    sums >"$work/sums"
+    edited "$top/hosts/drive/heedless.edit"
+    build_edited 'heedless servers' krl-server
+    compare_sums
+    mkdir -p "$CARGO_TARGET_DIR/heedless"
+    cp "$edited_programs/krl-server" "$heedless"
+    echo "$made_of" >"$heedless.made_of"
+}
+
 # Servers that stand by. In the failovers the server that serves, its machine or its store breaks. No lease and no
 # timeout ends these servers: only the store distinguishes them. Without network namespaces the same is done on one
 # machine.
@@ -90,11 +106,7 @@ part_failover() {
     keep_in_memory
     drive 0 'a frozen server, noticed by a client that only reads' \
         "$drive" frozen "$memory/frozen" 2 "$programs/krl-server"
-    sums >"$work/sums"
-    edited "$top/hosts/drive/heedless.edit"
-    build_edited 'heedless servers' krl-server
-    compare_sums
-    heedless=$edited_programs/krl-server
+    find_heedless
     drive 0 'servers that stand by' "$drive" failover "$memory/failover" "${KRL_FAULTS-12}" "$heedless"
     drive 0 'servers that stand by, without leases of clients' \
         "$drive" failover "$memory/failover-leaseless" 4 "$heedless" kill,wake,cut,cross leaseless

@@ -154,16 +154,23 @@ fn are_reached(blocks: &mut Blocks<u64>, beside: &[Option<u64>]) -> bool
     true
 }
 
+// A map with room for all keys, if memory is there for it.
+fn made(alloc: Global) -> Result<Blocks<u64>, AllocError>
+    ensures { IfOk result (λ blocks. 10000 ≤ blocks.room) }
+{
+    Blocks::from_sorted(alloc, &[], KEYS as usize)
+}
+
 // A map with room for all keys.
 fn roomy(alloc: Global) -> Result<Blocks<u64>, AllocError>
     ensures { IfOk result (λ blocks. 10000 ≤ blocks.room) }
 {
     for _ in 1..CALLS {
-        if let Ok(blocks) = Blocks::from_sorted(alloc, &[], KEYS as usize) {
+        if let Ok(blocks) = made(alloc) {
             return Ok(blocks);
         }
     }
-    Blocks::from_sorted(alloc, &[], KEYS as usize)
+    made(alloc)
 }
 
 // A list with a place for each key.

@@ -83,34 +83,40 @@ fn who_answers_for_ever_is_not_evicted(rt: HostRuntime) {
     assert_eq!(rt; Until::register(TEN, FOR_EVER - 1), never);
 }
 
+// What a server without leases keeps, after one with leases of a minute.
+const MINUTE: Kept = Kept {
+    longest: 60 * SECOND,
+    is_unleased: false,
+};
+
+const UNLEASED: Kept = Kept {
+    longest: 60 * SECOND,
+    is_unleased: true,
+};
+
 #[test]
 fn a_server_that_starts_waits_for_the_longest_lease(rt: HostRuntime) {
-    let minute = Kept {
-        longest: 60 * SECOND,
-        is_unleased: false,
-    };
-    assert_eq!(rt; minute.start(TEN), minute);
-    let old = minute.old_end(TEN, SECOND);
-    assert_eq!(rt; (old, old.moment), (minute.until(TEN, SECOND), 73 * SECOND));
-    assert_eq!(rt; minute.revise(TEN, old, old, 73 * SECOND - 1), minute);
+    assert_eq!(rt; MINUTE.start(TEN), MINUTE);
+    let old = MINUTE.old_end(TEN, SECOND);
+    assert_eq!(rt; (old, old.moment), (MINUTE.until(TEN, SECOND), 73 * SECOND));
+    assert_eq!(rt; MINUTE.revise(TEN, old, old, 73 * SECOND - 1), MINUTE);
     assert_eq!(rt;
-        minute.revise(TEN, old, old, 73 * SECOND).longest,
+        MINUTE.revise(TEN, old, old, 73 * SECOND).longest,
         TEN.length
     );
-    // A server without leases keeps how long older ones run.
-    let unleased = minute.start(NONE);
-    assert_eq!(rt;
-        (unleased.longest, unleased.is_unleased),
-        (60 * SECOND, true)
-    );
-    let never = unleased.until(TEN, SECOND);
+}
+
+#[test]
+fn a_server_without_leases_keeps_how_long_older_ones_run(rt: HostRuntime) {
+    assert_eq!(rt; MINUTE.start(NONE), UNLEASED);
+    let (old, never) = (MINUTE.old_end(TEN, SECOND), UNLEASED.until(TEN, SECOND));
     assert_eq!(rt; never.is_never(), true);
-    assert_eq!(rt; unleased.revise(TEN, old, never, SECOND).is_unleased, true);
-    assert_eq!(rt; unleased.revise(TEN, old, old, SECOND).is_unleased, false);
-    assert_eq!(rt; unleased.revise(NONE, old, old, 99 * SECOND), unleased);
+    assert_eq!(rt; UNLEASED.revise(TEN, old, never, SECOND).is_unleased, true);
+    assert_eq!(rt; UNLEASED.revise(TEN, old, old, SECOND).is_unleased, false);
+    assert_eq!(rt; UNLEASED.revise(NONE, old, old, 99 * SECOND), UNLEASED);
     assert_eq!(rt;
-        (unleased.register(TEN), minute.register(NONE)),
-        (minute, unleased)
+        (UNLEASED.register(TEN), MINUTE.register(NONE)),
+        (MINUTE, UNLEASED)
     );
 }
 

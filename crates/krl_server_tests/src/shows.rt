@@ -13,17 +13,27 @@ pub struct Survives {
     records: [Option<Record>; 4],
 }
 
-pub fn surviving(durable: &Durable) -> Survives {
+fn entries(durable: &Durable) -> [Option<(u64, Value)>; 4] {
     let mut entries = [None; 4];
-    let mut records = [None; 4];
     for i in 0..4usize {
         entries[i] = durable.run(0).get(i).copied();
+    }
+    entries
+}
+
+fn records(durable: &Durable) -> [Option<Record>; 4] {
+    let mut records = [None; 4];
+    for i in 0..4usize {
         records[i] = durable.record(i as u64);
     }
+    records
+}
+
+pub fn surviving(durable: &Durable) -> Survives {
     Survives {
         epoch: durable.epoch(),
-        entries,
-        records,
+        entries: entries(durable),
+        records: records(durable),
     }
 }
 
