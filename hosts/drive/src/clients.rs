@@ -175,7 +175,7 @@ impl Clients {
     /// Waits until each client of another program has begun: it may take long to start.
     pub fn wait_for_others(&self) -> Result<(), Box<dyn Error>> {
         let end = Instant::now() + ENDING;
-        while !self.least_noted_by_others().is_ok_and(|least| least != Some(0)) {
+        while self.least_noted_by_others()? == Some(0) {
             if end < Instant::now() {
                 return Err("another program notes nothing".into());
             }
@@ -186,26 +186,29 @@ impl Clients {
 
     /// Waits until the clients have noted what a round has to come to, since this was called last.
     /// Clients that take too long for it are left to [`judge`].
-    pub fn wait_for_a_round(&mut self) {
+    pub fn wait_for_a_round(&mut self) -> std::io::Result<()> {
         let (end, before) = (Instant::now() + ROUND, self.noted);
         while self.in_vain < MAX_IN_VAIN {
-            self.noted = self.count_notes();
+            self.noted = self.count_notes()?;
             if self.noted.is_a_round_since(before) {
-                return;
+                break;
             }
             if Instant::now() >= end {
                 self.in_vain += 1;
-                return;
+                break;
             }
             thread::sleep(Duration::from_millis(20));
         }
+        Ok(())
     }
 
-    /// How much they have noted. One that has not begun has no file.
-    fn count_notes(&self) -> Noted {
-        let numbers = READERS.into_iter().chain(WRITERS);
-        let notes = numbers.flat_map(|number| notes(&self.folder, number).unwrap_or_default());
-        notes.fold(Noted::default(), |noted, note| noted.with(&note))
+    /// How much they have noted.
+    fn count_notes(&self) -> std::io::Result<Noted> {
+        let mut noted = Noted::default();
+        for number in READERS.into_iter().chain(WRITERS) {
+            noted = notes(&self.folder, number)?.iter().fold(noted, Noted::with);
+        }
+        Ok(noted)
     }
 
     /// How many were killed.

@@ -180,7 +180,7 @@ impl Drive {
         thread::sleep(Duration::from_millis(500));
         for round in 0..rounds {
             thread::sleep(Duration::from_millis(200 + 37 * (round % 5)) * longer);
-            self.clients.wait_for_a_round();
+            self.clients.wait_for_a_round()?;
             if self.server.ended()?.is_some() {
                 return Err("the server ended by itself".into());
             }

@@ -1,6 +1,6 @@
 //! What readers and writers note of what they did, a line each.
 use std::fs::{File, OpenOptions};
-use std::io::{self, Write};
+use std::io::{self, ErrorKind, Write};
 use std::path::{Path, PathBuf};
 use std::time::{SystemTime, UNIX_EPOCH};
 
@@ -79,10 +79,13 @@ impl Log {
     }
 }
 
-/// All notes of a client.
+/// All notes of a client. One that has not begun has no log, and so no notes.
 pub fn notes(folder: &Path, number: u8) -> io::Result<Vec<Note>> {
-    let text = std::fs::read_to_string(path(folder, number))?;
-    Ok(text.split_inclusive('\n').filter_map(Note::of).collect())
+    match std::fs::read_to_string(path(folder, number)) {
+        Ok(text) => Ok(text.split_inclusive('\n').filter_map(Note::of).collect()),
+        Err(error) if error.kind() == ErrorKind::NotFound => Ok(Vec::new()),
+        Err(error) => Err(error),
+    }
 }
 
 fn path(folder: &Path, number: u8) -> PathBuf {
@@ -116,5 +119,11 @@ mod tests {
         }
         assert_eq!(Note::of("R 5 6 0 9 1\n"), None);
         assert_eq!(Note::of("R 5 6 0 9 1 2 torn\n"), None);
+    }
+
+    #[test]
+    fn who_has_not_begun_has_no_notes() {
+        let no_folder = std::env::temp_dir().join(format!("krl-no-log-{}", std::process::id()));
+        assert_eq!(notes(&no_folder, 1).unwrap(), []);
     }
 }
