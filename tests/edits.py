@@ -91,7 +91,8 @@ def stands_alone(edit):
 
 
 def first_round(crate, edits):
-    """As many of the edits as change different functions; or one that stands alone; or some that change definitions."""
+    """Returns the edits of the next check: one that stands alone, or up to ten that change definitions, or all others
+    that change different functions."""
     if changes_a_definition(edits[0]):
         return [it for it in edits if changes_a_definition(it)][:DEFINITIONS]
     if stands_alone(edits[0]):

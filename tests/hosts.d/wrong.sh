@@ -87,7 +87,7 @@ part_wrong_drives() {
 find_heedless() {
     heedless=$CARGO_TARGET_DIR/heedless/krl-server
     made_of=$(cksum "$programs/krl-server" "$top/hosts/drive/heedless.edit")
-    [ "$made_of" != "$(cat "$heedless.made_of" 2>/dev/null)" ] || return 0
+    [ ! -x "$heedless" ] || [ "$made_of" != "$(cat "$heedless.made_of" 2>/dev/null)" ] || return 0
     sums >"$work/sums"
     edited "$top/hosts/drive/heedless.edit"
     build_edited 'heedless servers' krl-server

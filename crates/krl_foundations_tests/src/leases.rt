@@ -83,12 +83,13 @@ fn who_answers_for_ever_is_not_evicted(rt: HostRuntime) {
     assert_eq!(rt; Until::register(TEN, FOR_EVER - 1), never);
 }
 
-// What a server without leases keeps, after one with leases of a minute.
+// What a server keeps that grants leases of a minute.
 const MINUTE: Kept = Kept {
     longest: 60 * SECOND,
     is_unleased: false,
 };
 
+// What a server without leases keeps that starts after it.
 const UNLEASED: Kept = Kept {
     longest: 60 * SECOND,
     is_unleased: true,
