@@ -16,6 +16,7 @@ import ctypes
 import functools
 import json
 import os
+import re
 import sys
 from collections.abc import Iterator
 from pathlib import Path
@@ -25,6 +26,7 @@ import messages as coder
 from messages import encode
 
 FILE = Path(__file__).with_name("vectors.jsonl")
+PAGE = Path(__file__).parents[2] / "docs/WIRE.md"
 
 DONE, BAD_MESSAGE = 0, 8
 """The codes of `krl.h` that a decoder answers."""
@@ -159,12 +161,22 @@ def fault_of(to: str, message: bytes) -> str | None:
     return None
 
 
+def check_end(to: str, message: bytes) -> None:
+    """Ends with a sentence if a front of the message, or the message with a byte more, has another fault."""
+    for end in range(len(message)):
+        if fault_of(to, message[:end]) != "Short":
+            sys.exit(f"vectors: the library does not find {message[:end].hex()} too short")
+    if fault_of(to, message + b"\0") != "Trailing":
+        sys.exit(f"vectors: the library finds no byte too many in {message.hex()}00")
+
+
 def lines() -> Iterator[str]:
     """The lines of the file."""
     for said in messages():
         to = "server" if coder.is_to_server(said["kind"]) else "client"
         if fault_of(to, encode(said)) is not None:
             sys.exit(f"vectors: the library refuses {said}")
+        check_end(to, encode(said))
         yield line(to, encode(said), message=said)
     for to, string in faulty():
         fault = fault_of(to, string)
@@ -178,6 +190,16 @@ def line(to: str, string: bytes, **more: Any) -> str:
     return json.dumps({"to": to, "bytes": string.hex(), **more}) + "\n"
 
 
+def examples() -> list[str]:
+    """The examples of `docs/WIRE.md`, in hexadecimal digits. The first line of each begins with the version."""
+    found: list[str] = []
+    for digits in re.findall("(?m)^ {8}([0-9a-f ]+)$", PAGE.read_text()):
+        if digits.startswith("01 "):
+            found.append("")
+        found[-1] += digits.replace(" ", "")
+    return found
+
+
 def compare() -> None:
     """Ends with a sentence if the file is not what it should be."""
     stored = FILE.read_text().splitlines(keepends=True)
@@ -187,6 +209,8 @@ def compare() -> None:
         said = json.loads(old).get("message")
         if said is not None and coder.decode(bytes.fromhex(json.loads(old)["bytes"])) != said:
             sys.exit(f"vectors: line {place}: messages.py decodes something else")
+    if missing := set(examples()) - {json.loads(old)["bytes"] for old in stored}:
+        sys.exit(f"vectors: no line has the examples {missing} of docs/WIRE.md")
     found = {json.loads(old)["fault"] for old in stored if "fault" in json.loads(old)}
     if missing := set(FAULTS) - found:
         sys.exit(f"vectors: no line has the faults {missing}")

@@ -1,8 +1,8 @@
 # shellcheck shell=sh disable=SC2034,SC2154
 # Part of tests/hosts: hosts with an edit, which a test or a drive has to find, and the servers that stand by.
 
-# Makes a copy of the hosts with an edit, $work/wrong.
-edited() {
+# Makes a copy of the hosts, $work/wrong.
+copy_hosts() {
     rm -rf "$work/wrong"
     mkdir -p "$work/wrong/hosts" "$work/wrong/examples"
     cp "$top/hosts/Cargo.toml" "$work/wrong/hosts"
@@ -13,6 +13,11 @@ edited() {
     done
     # The drive of a cached table has a reader over this package.
     cp -R "$top/hosts/python" "$work/wrong/hosts"
+}
+
+# Makes a copy of the hosts with an edit.
+edited() {
+    copy_hosts
     "$top/tests/edit" "$1" "$work/wrong" || fail "$(basename "$1"): the edit does not fit"
 }
 
@@ -57,28 +62,43 @@ part_wrong() {
     compare_sums
 }
 
-# Each other one, which the drive has to find.
+# Has the drive that an edit names find something wrong, in a copy that is built.
+find_by_drive() {
+    name=$(basename "$1" .edit)
+    words=$(sed -n 's/^drive: //p' "$1")
+    if [ "${words%% *}" = cache ] && ! has_postgresql_headers; then
+        lacks "there are no header files of PostgreSQL: wrong body $name"
+        return
+    fi
+    [ "${words%% *}" != cache ] || [ -n "${KRL_POSTGRESQL-}" ] || install_extension
+    # shellcheck disable=SC2086
+    (export "WRONG_HOST_$name=1" && finds "wrong body $name" "$edited_programs/krl_drive" ${words:-kill 20}) || exit 1
+}
+
+# Builds the drives of the copy, and the library of the readers in C and Python.
+build_drives() {
+    build_edited "$1" krl_drive krl-cache-c
+}
+
+# Each other one, which a drive has to find: in one copy, in which the environment chooses one of them, and those that
+# cannot be chosen so by themselves.
 part_wrong_drives() {
     need_programs
     find_heedless
     sums >"$work/sums"
-    for edit in "$top"/hosts/drive/wrong/*.edit; do
-        ! grep -q '^test: ' "$edit" || continue
-        name=$(basename "$edit" .edit)
-        words=$(sed -n 's/^drive: //p' "$edit")
-        if [ "${words%% *}" = cache ] && ! has_postgresql_headers; then
-            lacks "there are no header files of PostgreSQL: wrong body $name"
-            continue
-        fi
-        [ "${words%% *}" != cache ] || [ -n "${KRL_POSTGRESQL-}" ] || install_extension
-        edited "$edit"
-        # Of that drive, the readers in C and Python are over this library.
-        [ "${words%% *}" = cache ] && read_by=krl-cache-c || read_by=
-        # shellcheck disable=SC2086
-        build_edited "wrong body $name" krl_drive $read_by
-        # shellcheck disable=SC2086
-        finds "wrong body $name" "$edited_programs/krl_drive" ${words:-kill 20}
+    # shellcheck disable=SC2046
+    set -- $(grep -L '^test: ' "$top"/hosts/drive/wrong/*.edit)
+    copy_hosts
+    "$top/tests/edit" --chosen "$work/wrong" "$@" >"$work/alone" || fail 'an edit does not fit'
+    build_drives 'the wrong hosts of drives'
+    for edit; do
+        grep -qxF "$edit" "$work/alone" || find_by_drive "$edit"
     done
+    while read -r edit; do
+        edited "$edit"
+        build_drives "wrong body $(basename "$edit")"
+        find_by_drive "$edit"
+    done <"$work/alone"
     compare_sums
 }
 

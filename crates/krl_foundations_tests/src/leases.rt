@@ -83,13 +83,13 @@ fn who_answers_for_ever_is_not_evicted(rt: HostRuntime) {
     assert_eq!(rt; Until::register(TEN, FOR_EVER - 1), never);
 }
 
-// What a server keeps that grants leases of a minute.
+// What a server that grants leases of a minute keeps.
 const MINUTE: Kept = Kept {
     longest: 60 * SECOND,
     is_unleased: false,
 };
 
-// What a server without leases keeps that starts after it.
+// What a server without leases, which starts after that one, keeps.
 const UNLEASED: Kept = Kept {
     longest: 60 * SECOND,
     is_unleased: true,

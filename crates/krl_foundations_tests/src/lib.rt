@@ -1,5 +1,5 @@
 //! Tests of modes, values, messages, waiting lists, maps in blocks and what survives a restart,
-//! of leases, and of messages as bytes, through their public calls.
+//! of leases and their table, and of messages as bytes, through their public calls.
 #![tactic(auto)]
 
 #[cfg(test)]
@@ -8,6 +8,8 @@ mod again;
 mod blocks;
 #[cfg(test)]
 mod durable;
+#[cfg(test)]
+mod lease_table;
 #[cfg(test)]
 mod leases;
 #[cfg(test)]

@@ -1,8 +1,10 @@
-//! Tests of nodes on one thread, through their public calls.
+//! Tests of nodes on one thread and on several, through their public calls.
 #![tactic(auto)]
 
 #[cfg(test)]
 mod acts;
+#[cfg(test)]
+mod gates;
 #[cfg(test)]
 mod nodes;
 #[cfg(test)]

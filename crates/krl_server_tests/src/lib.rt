@@ -1,4 +1,4 @@
-//! Tests of the server, apart from it so that its own proof is not made twice.
+//! Tests of the server and its table, apart from them so that their own proofs are not made twice.
 #![tactic(auto)]
 
 #[cfg(test)]
@@ -29,6 +29,8 @@ mod shows;
 mod starts;
 #[cfg(test)]
 mod strangers;
+#[cfg(test)]
+mod table;
 #[cfg(test)]
 mod tests;
 #[cfg(test)]

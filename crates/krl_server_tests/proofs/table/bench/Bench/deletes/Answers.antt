@@ -1,8 +1,8 @@
 use Rattle.std.proofs.Common.{◌≡◌, ◌<◌, true, sym, subst, ◌∙◌, arith}
 use Rattle.krl_messages.specs.declared.write_op.WriteOp.TheVariants as write
 use Rattle.krl_table.specs.KeptRows.{IsOver}
-use Rattle.krl_table_tests.proofs.Applied.{applied_index, applied_room}
-use Rattle.krl_table_tests.proofs.bench.Bench.deletes.Goals as goal
+use Rattle.krl_server_tests.proofs.Applied.{applied_index, applied_room}
+use Rattle.krl_server_tests.proofs.table.bench.Bench.deletes.Goals as goal
 
 pub invariant_of-self : goal.invariant_of-self
 invariant_of-self c =

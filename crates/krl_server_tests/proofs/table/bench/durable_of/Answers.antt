@@ -1,6 +1,6 @@
 use Rattle.std.proofs.Common.{nat_eq, [], ◌∷◌}
 use Rattle.std.specs.List.{IsDistinct}
-use Rattle.krl_table_tests.proofs.bench.durable_of.Goals as goal
+use Rattle.krl_server_tests.proofs.table.bench.durable_of.Goals as goal
 
 one : IsDistinct nat_eq (0 ∷ [])
 unfolding IsDistinct

@@ -1,6 +1,6 @@
 //! What a table is asked, one row after another, and what it has to give.
-use crate::bench::Bench;
-use crate::report::Report;
+use super::bench::Bench;
+use super::report::Report;
 use krl_messages::Outcome;
 use krl_modes::Mode;
 use std::alloc::Global;

@@ -1,6 +1,6 @@
 //! Reports in no order, and what they are in order.
+use super::report::{self, Report};
 use crate::again::CALLS;
-use crate::report::{self, Report};
 use krl_messages::Pieces;
 use krl_modes::{END, KeyPart, RangePart, TOP};
 use krl_table::{in_order, is_in_order};

@@ -4,8 +4,8 @@ ghost use Rattle.std.specs.Prelude.{◌≡◌, ◌<◌, true, IfSome, IsSomeAnd}
 ghost use Rattle.krl_modes.specs.declared.point.TheConstants.{END};
 ghost use Rattle.krl_durable.specs.Registers.{record_of};
 
+use super::report::{Report, pieces};
 use crate::again::CALLS;
-use crate::report::{Report, pieces};
 use krl_durable::{Durable, EntriesRefused, Limits, Record};
 use krl_messages::{Outcome, Value, WriteOp};
 use krl_modes::{END, Mode, Point, TOP};

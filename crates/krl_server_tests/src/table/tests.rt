@@ -1,6 +1,6 @@
-use crate::asks::{Alone, Ask, check};
-use crate::orders::{ORDERS, is_brought_into_order};
-use crate::report::Report;
+use super::asks::{Alone, Ask, check};
+use super::orders::{ORDERS, is_brought_into_order};
+use super::report::Report;
 use krl_messages::Outcome;
 use krl_modes::{END, KeyPart, Mode, RangePart, TOP};
 
