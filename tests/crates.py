@@ -10,6 +10,7 @@ ROOTS = ("src/lib.rt", "src/main.rt")
 
 HEAD = re.compile(r'(?m)^( *)(?:pub(?:\([a-z]+\))? )?(?:const )?(?:extern "C" )?fn (\w+)')
 IMPL = re.compile(r"(?m)^impl\b(?:<[^{]*?>)? *(?:[\w:<>, ]+ for )?&?(\w+)")
+IMPL_HEAD = re.compile(r"(?m)^impl\b[^{]*\{\n")
 
 
 def stop(why):

@@ -3,6 +3,7 @@ fail, and which are tried together."""
 import re
 from collections import namedtuple
 
+from copies import copy_of
 from crates import functions_in, names_of
 
 # The head of a function.
@@ -11,8 +12,8 @@ CONSTANT = re.compile(r"(?m)^ *(?:pub(?:\([a-z]+\))? )?(?:const|static) (\w+):")
 
 # A wrong body, or a wrong definition: its changes, each a path in the crate, the old text and the new one, and the
 # prover's names of the functions that they change, or of the law that has to fail. `why` is what is wrong with the
-# edit itself.
-Edit = namedtuple("Edit", "label changes functions why")
+# edit itself. If `copy` is there, the edit is made in this copy of its function.
+Edit = namedtuple("Edit", "label changes functions why copy", defaults=[None])
 # Edits of one crate that are tried in one check.
 Round = namedtuple("Round", "crate edits")
 # How many wrong definitions are tried in one check, which takes up to 1.6 GB then.
@@ -90,20 +91,28 @@ def stands_alone(edit):
     return any(HEAD.search(old) for _, old, _ in edit.changes)
 
 
+def in_copy(crate, edit, number):
+    """The edit as one of a copy of its function, if there can be one: a list of one edit, or an empty one."""
+    copy = copy_of(crate, edit, number)
+    return [edit._replace(functions={copy.copy}, copy=copy)] if copy else []
+
+
 def first_round(crate, edits):
-    """Returns the edits of the next check: one that stands alone, or up to ten that change definitions, or all others
-    that change different functions."""
+    """Returns the edits of the next check: up to ten that change definitions, or those of different functions. One that
+    is in the way of these is made in a copy of its function; if there can be none, it is tried in another check."""
     if changes_a_definition(edits[0]):
         return [it for it in edits if changes_a_definition(it)][:DEFINITIONS]
-    if stands_alone(edits[0]):
-        return edits[:1]
     taken, changed, source = [], set(), crate.source
-    for edit in edits:
-        is_apart = changed & edit.functions or stands_alone(edit) or changes_a_definition(edit)
+    for number, edit in enumerate(edits):
+        if changes_a_definition(edit):
+            continue
+        is_apart = changed & edit.functions or stands_alone(edit)
         texts = None if is_apart else edited(source, edit)
         if texts:
             taken, changed, source = [*taken, edit], changed | edit.functions, texts
-    return taken
+        else:
+            taken += in_copy(crate, edit, number)
+    return taken or edits[:1]
 
 
 def rounds_of(crate):
@@ -113,5 +122,6 @@ def rounds_of(crate):
     while left:
         taken = first_round(crate, left)
         rounds.append(Round(crate, taken))
-        left = [it for it in left if it not in taken]
+        labels = {it.label for it in taken}
+        left = [it for it in left if it.label not in labels]
     return rounds, [it for it in read if it.why]

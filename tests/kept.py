@@ -16,7 +16,7 @@ from crates import TOP
 
 PARTS = ("src", "specs", "proofs")
 # The scripts by which a wrong body is judged.
-SCRIPTS = ("crates.py", "definitions.py", "edits.py", "prover.py", "wrong_bodies")
+SCRIPTS = ("copies.py", "crates.py", "definitions.py", "edits.py", "prover.py", "wrong_bodies")
 # What nothing has used for so many seconds is removed.
 LONGEST = 90 * 24 * 3600
 

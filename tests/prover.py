@@ -1,10 +1,13 @@
 """The checks of wrong bodies: the copy that each reads, how the prover is asked, and what it printed."""
+import functools
 import pathlib
 import re
 import shutil
 import subprocess
 import tempfile
+import time
 
+from copies import write_function
 from crates import HEAD, functions_in, libraries, names_of
 from definitions import Modules, folder_of, law_of, publish, write_definition
 from edits import changes_a_definition, edited
@@ -24,9 +27,12 @@ def write_copy(crate, edits, changed, room):
             shutil.copytree(crate.folder / part, room / part)
     source = crate.source
     for edit in edits:
-        source = edited(source, edit)
+        source = source if edit.copy else edited(source, edit)
     for path, text in source.items():
         (room / path).write_text(emptied(crate, path, text, changed, room), encoding="utf-8")
+    for edit in edits:
+        if edit.copy:
+            write_function(crate, edit, room)
     for function in crate.functions:
         if function not in changed:
             make_hole(crate, function, room)
@@ -81,12 +87,33 @@ def prover_words(crate, functions, kit, kept):
     """Asks the prover about these functions as `rt ci` asks it about the whole crate, but that holes may stay."""
     words = [kit / "bin/rattle", "check", "--crate-name", crate.name, crate.root]
     words += libraries(crate.name, crate.uses, kit)
-    words += ["--links", f"{crate.name}=", "--jobs", "1", "--allow-holes"]
+    words += ["--links", f"{crate.name}=", "--jobs", "1", "--allow-holes", *words_for_progress(kit)]
     if kept:
         words += ["--incremental", kept]
     for it in sorted(functions):
         words += ["--only", it]
     return words
+
+
+@functools.cache
+def words_for_progress(kit):
+    """The word by which the prover prints a line as it ends with each function, if this release of the kit has it."""
+    asked = [kit / "bin/rattle", "check", "--help"]
+    has_word = "--progress" in subprocess.run(asked, stdout=subprocess.PIPE, text=True, check=True).stdout
+    return ["--progress"] if has_word else []
+
+
+def timed(lines):
+    """The lines that the prover prints; those of its progress state how long it took for the function, but for the
+    first one, before which it reads the libraries."""
+    last = None
+    for line in lines:
+        if line.startswith("checked "):
+            now = time.monotonic()
+            if last:
+                line = f"{line.partition(',')[0]}: {now - last:.0f} s\n"
+            last = now
+        yield line
 
 
 def functions_of(crate, kit):
@@ -103,9 +130,10 @@ def asked(crate, functions, room, kit, log, kept):
     `kept` share what no edit changes."""
     words = prover_words(crate, functions, kit, kept)
     how = {"cwd": room, "stdin": subprocess.DEVNULL, "text": True, "errors": "replace"}
-    ran = subprocess.run(words, stdout=subprocess.PIPE, stderr=subprocess.STDOUT, **how)
-    killed = "error: the check was killed, most likely for memory\n" if ran.returncode < 0 else ""
-    said = killed + ran.stdout
+    with subprocess.Popen(words, stdout=subprocess.PIPE, stderr=subprocess.STDOUT, **how) as ran:
+        said = "".join(timed(ran.stdout))
+    if ran.returncode < 0:
+        said = f"error: the check was killed, most likely for memory\n{said}"
     if log:
         with open(log, "a", encoding="utf-8") as it:
             it.write(f"== {crate.name}\n{said}")
@@ -183,9 +211,16 @@ def judge(found, is_control, refused):
     return False, f"NOT REFUSED: {found}"
 
 
+def took(functions, said):
+    """How long the prover took for these functions, if it reports that."""
+    found = [int(it[2]) for it in re.finditer(r"(?m)^checked (\S+): (\d+) s$", said) if it[1] in functions]
+    return f" in {sum(found)} s" if found else ""
+
+
 def judge_body(edit, said, is_control):
     """Whether all is well with the edit of functions, and the words that report it."""
-    return judge({it: verdict(it, said, proof_of(it)) for it in sorted(edit.functions)}, is_control, "refused")
+    found = {it: verdict(it, said, proof_of(it)) for it in sorted(edit.functions)}
+    return judge(found, is_control, f"refused{took(edit.functions, said)}")
 
 
 def judge_definition(edit, number, copy, said, is_control):
@@ -199,7 +234,7 @@ def judge_definition(edit, number, copy, said, is_control):
     if faults:
         return False, f"BAD EDIT: the prover refuses the definitions themselves: {faults[0][:200]}"
     found = {law: verdict(copy, said, f"proofs/(?:{folder_of(number)}|{law_of(number)})")}
-    return judge(found, is_control, f"refused by {law}")
+    return judge(found, is_control, f"refused by {law}{took({copy}, said)}")
 
 
 def tried(crate, edits, kit, is_control, log, kept):
@@ -210,7 +245,8 @@ def tried(crate, edits, kit, is_control, log, kept):
         judged = [judge_definition(it, i, copies[i], said, is_control) for i, it in enumerate(edits)]
     else:
         changed = {it for edit in edits for it in edit.functions}
-        said = check(crate, [] if is_control else edits, changed, kit, log, kept)
+        made = [it._replace(changes=[]) for it in edits] if is_control else edits
+        said = check(crate, made, changed, kit, log, kept)
         judged = [judge_body(it, said, is_control) for it in edits]
     if is_read(said):
         return [(it, *judgement) for it, judgement in zip(edits, judged)]

@@ -64,13 +64,15 @@ drive() {
         "$2" "$(tail -n 1 "$work/log")" $((clock - began)) $((processor - spent)) >&2
 }
 
-# Leaves in $memory a folder in memory, if there is room for stores: what has to come soon does not wait for a disk on
-# which other parts have written.
+# Leaves in $memory a folder that is as open to other users as /tmp is, in memory if there is room for stores: what has
+# to come soon does not wait for a disk on which other parts have written.
 keep_in_memory() {
     memory=$work
-    [ -w /dev/shm ] && [ "$(df -k --output=avail /dev/shm | tail -n 1)" -gt 1000000 ] || return 0
-    memory=$(mktemp -d /dev/shm/krl.XXXXXX)
-    trap 'rm -rf "$memory"; leave' EXIT
+    if [ -w /dev/shm ] && [ "$(df -k --output=avail /dev/shm | tail -n 1)" -gt 4000000 ]; then
+        memory=$(mktemp -d /dev/shm/krl.XXXXXX)
+        trap 'rm -rf "$memory"; leave' EXIT
+    fi
+    chmod 1777 "$memory"
 }
 
 # Runs a drive that has to find something wrong: `finds WHAT PROGRAM DRIVE ROUNDS WORD..`. Whether a kill falls where it

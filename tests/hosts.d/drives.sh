@@ -16,14 +16,15 @@ part_short() {
 
 part_kills() {
     need_programs
-    drive 0 'kills' "$drive" kill "$work/kills" 20
-    drive 0 'kills over a network that loses, repeats and swaps' "$drive" kill "$work/lossy" 6 sqlite lossy
+    keep_in_memory
+    drive 0 'kills' "$drive" kill "$memory/kills" 20
+    drive 0 'kills over a network that loses, repeats and swaps' "$drive" kill "$memory/lossy" 6 sqlite lossy
     make_certificates
-    drive 0 'kills, over TLS and with leases' "$drive" kill "$work/tls" 6 sqlite tls
-    drive 0 'the same over a network that loses, repeats and swaps' "$drive" kill "$work/lossy-tls" 6 sqlite lossy-tls
+    drive 0 'kills, over TLS and with leases' "$drive" kill "$memory/tls" 6 sqlite tls
+    drive 0 'the same over a network that loses, repeats and swaps' "$drive" kill "$memory/lossy-tls" 6 sqlite lossy-tls
     finds 'a store that loses what it has not synced' "$drive" kill 20 unsynced direct
-    drive 0 'shards' "$drive" shards "$work/shards" 20 2
-    drive 0 'shards that change' "$drive" moves "$work/moves" 60 12 "$programs/krl-server"
+    drive 0 'shards' "$drive" shards "$memory/shards" 20 2
+    drive 0 'shards that change' "$drive" moves "$memory/moves" 60 12 "$programs/krl-server"
 }
 
 part_leases() {

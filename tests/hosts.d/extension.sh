@@ -4,5 +4,6 @@
 part_extension() {
     has_postgresql_headers || not_run 'there are no header files of PostgreSQL: the extension for it'
     need_programs
-    expect 0 'the extension for PostgreSQL' "$top/hosts/pgext/check" "$programs" --wrong
+    keep_in_memory
+    expect 0 'the extension for PostgreSQL' env TMPDIR="$memory" "$top/hosts/pgext/check" "$programs" --wrong
 }

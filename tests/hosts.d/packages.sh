@@ -1,9 +1,10 @@
 # shellcheck shell=sh disable=SC2154
 # Part of tests/hosts: what is handed out, each tried in a folder of its own, and the commands of the pages.
 
-# Makes a package by this script of hosts/packaging.
+# Makes a package by this script of hosts/packaging, compressed less than one that is handed out.
 make_package() {
-    env LIBRARY="$work/library" PROGRAMS="$programs" "$top/hosts/packaging/$1" "$work/dist"
+    env LIBRARY="$work/library" PROGRAMS="$programs" DPKG_DEB_COMPRESSOR_LEVEL=1 \
+        "$top/hosts/packaging/$1" "$work/dist"
 }
 
 # They serve without rt and cargo.

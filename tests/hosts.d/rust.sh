@@ -1,4 +1,4 @@
-# shellcheck shell=sh disable=SC2154
+# shellcheck shell=sh disable=SC2034,SC2154
 # Part of tests/hosts: the hosts in Rust, built, looked at by clippy, and their tests.
 
 # Everything that later parts run. Each of them builds what is not there by itself.
@@ -36,16 +36,19 @@ part_features() {
     cargo_in "$top/hosts" 'the documentation' doc --workspace --no-deps
 }
 
-# Runs tests of cargo: `run_tests WORD..`, the words by which cargo chooses them.
+# Runs tests of cargo: `run_tests WORD..`, the words by which cargo chooses them. Their stores are in memory.
 run_tests() {
     (
         profile=tests
+        TMPDIR=$memory
+        export TMPDIR
         cargo_in "$top/hosts" "cargo test $*" test --no-fail-fast "$@"
     )
 }
 
 part_units() {
     find_crates
+    keep_in_memory
     run_tests --workspace --exclude krl-client-c --lib --bins
     run_tests --workspace --exclude krl-client-c --doc
     run_tests -p krl-client-c
@@ -55,6 +58,7 @@ part_integration() {
     find_crates
     has chromium || lacks 'there is no chromium: the page of a server in a browser'
     has promtool || lacks 'there is no promtool: the alert rules for Prometheus'
+    keep_in_memory
     run_tests --workspace --exclude krl-client-c --test '*'
 }
 

@@ -72,7 +72,7 @@ find_by_drive() {
     fi
     [ "${words%% *}" != cache ] || [ -n "${KRL_POSTGRESQL-}" ] || install_extension
     # shellcheck disable=SC2086
-    (export "WRONG_HOST_$name=1" && finds "wrong body $name" "$edited_programs/krl_drive" ${words:-kill 20}) || exit 1
+    (export "WRONG_HOST_$name=1" && finds "wrong body $name" "$edited_programs/krl_drive" ${words:-kill 8}) || exit 1
 }
 
 # Builds the drives of the copy, and the library of the readers in C and Python.

@@ -63,19 +63,19 @@ fn silent(table: &mut LeaseTable) -> Result<[Option<u64>; 3], Refused> {
 fn a_silent_client_is_evicted_after_its_lease_and_the_drift(rt: HostRuntime) {
     match table() {
         Ok(mut table) => {
-            assert_eq!(rt; silent(&mut table), Ok([None, None, Some(2)]));
+            assert!(rt; silent(&mut table) == Ok([None, None, Some(2)]));
             // It answers nothing from then on, and is evicted until it has left.
-            assert_eq!(rt;
-                table.sign(9, sign(1, 10 * SECOND, Older::Unknown), 37 * SECOND),
-                Ok(Heard::HasEnded)
+            assert!(rt;
+                table.sign(9, sign(1, 10 * SECOND, Older::Unknown), 37 * SECOND)
+                    == Ok(Heard::HasEnded)
             );
-            assert_eq!(rt; table.evict(9, 0), Ok(Some(2)));
-            assert_eq!(rt; table.succeed(9, 2), Ok(()));
-            assert_eq!(rt; table.evict(9, 0), Ok(Some(3)));
-            assert_eq!(rt; table.leave(9), Ok(()));
-            assert_eq!(rt; table.evict(9, FOR_EVER), Ok(None));
+            assert!(rt; table.evict(9, 0) == Ok(Some(2)));
+            assert!(rt; table.succeed(9, 2) == Ok(()));
+            assert!(rt; table.evict(9, 0) == Ok(Some(3)));
+            assert!(rt; table.leave(9) == Ok(()));
+            assert!(rt; table.evict(9, FOR_EVER) == Ok(None));
         }
-        Err(refused) => assert_eq!(rt; refused, Refused::Spent),
+        Err(refused) => assert!(rt; refused == Refused::Spent),
     }
 }
 
@@ -92,9 +92,8 @@ fn ends_after_the_start() -> Result<[Option<End>; 5], Refused> {
 fn a_server_that_starts_waits_for_the_longest_lease(rt: HostRuntime) {
     let minute = Some(End::At(72 * SECOND));
     let two = Some(End::At(14 * SECOND));
-    assert_eq!(rt;
-        ends_after_the_start(),
-        Ok([minute, None, Some(End::Never), Some(End::Never), two])
+    assert!(rt;
+        ends_after_the_start() == Ok([minute, None, Some(End::Never), Some(End::Never), two])
     );
 }
 
@@ -108,7 +107,7 @@ fn longest_twice() -> Result<[u64; 2], Refused> {
 
 #[test]
 fn what_is_stored_becomes_less_once_no_older_lease_runs(rt: HostRuntime) {
-    assert_eq!(rt; longest_twice(), Ok([60 * SECOND, 10 * SECOND]));
+    assert!(rt; longest_twice() == Ok([60 * SECOND, 10 * SECOND]));
 }
 
 fn terms_in_turn() -> Result<[Option<Grant>; 4], Refused> {
@@ -135,7 +134,7 @@ fn terms_leave_once_after_a_commit_that_began_after_the_sign(rt: HostRuntime) {
         stamp: 99,
         length: 10 * SECOND,
     };
-    assert_eq!(rt; terms_in_turn(), Ok([None, None, Some(grant), None]));
+    assert!(rt; terms_in_turn() == Ok([None, None, Some(grant), None]));
 }
 
 // Whether the client's incarnation, whose host has signed with this word, may send Hello.
@@ -147,31 +146,31 @@ fn may_join(client: u64, incarnation: u64, older: Older, now: u64) -> Result<boo
 
 #[test]
 fn a_second_process_waits_until_the_first_has_ended(rt: HostRuntime) {
-    assert_eq!(rt; may_join(4, 8, Older::Unknown, SECOND), Ok(true));
-    assert_eq!(rt; may_join(3, 8, Older::Unknown, 72 * SECOND - 1), Ok(false));
-    assert_eq!(rt; may_join(3, 8, Older::Vouched, 72 * SECOND - 1), Ok(false));
-    assert_eq!(rt; may_join(3, 8, Older::Unknown, 72 * SECOND), Ok(true));
-    assert_eq!(rt; may_join(3, 8, Older::IsOver(7), SECOND), Ok(true));
-    assert_eq!(rt; may_join(3, 9, Older::IsOver(8), SECOND), Ok(false));
-    assert_eq!(rt; may_join(5, 8, Older::Unknown, 9999 * SECOND), Ok(false));
-    assert_eq!(rt; may_join(5, 8, Older::Vouched, SECOND), Ok(true));
+    assert!(rt; may_join(4, 8, Older::Unknown, SECOND) == Ok(true));
+    assert!(rt; may_join(3, 8, Older::Unknown, 72 * SECOND - 1) == Ok(false));
+    assert!(rt; may_join(3, 8, Older::Vouched, 72 * SECOND - 1) == Ok(false));
+    assert!(rt; may_join(3, 8, Older::Unknown, 72 * SECOND) == Ok(true));
+    assert!(rt; may_join(3, 8, Older::IsOver(7), SECOND) == Ok(true));
+    assert!(rt; may_join(3, 9, Older::IsOver(8), SECOND) == Ok(false));
+    assert!(rt; may_join(5, 8, Older::Unknown, 9999 * SECOND) == Ok(false));
+    assert!(rt; may_join(5, 8, Older::Vouched, SECOND) == Ok(true));
 }
 
 #[test]
 fn what_does_not_fit_is_refused(rt: HostRuntime) {
     let mut new = LeaseTable::new(TEN, 0);
-    assert_eq!(rt; new.open(0), Err(Refused::NotOpen));
-    assert_eq!(rt; new.leave(3), Err(Refused::NotOpen));
-    assert_eq!(rt; new.store_has(64, 7, false, false), Err(Refused::BadClient));
-    assert_eq!(rt; new.committed(1), Err(Refused::NoCommit));
-    assert_eq!(rt; new.commit(), Ok(1));
-    assert_eq!(rt; new.store_has(3, 7, false, false), Err(Refused::Begun));
-    assert_eq!(rt; new.open(0), Err(Refused::NotOpen));
-    assert_eq!(rt; new.committed(1), Ok(()));
-    assert_eq!(rt; new.open(0), Ok(()));
-    assert_eq!(rt; new.open(0), Err(Refused::Begun));
-    assert_eq!(rt; new.register(3, 0, 0), Err(Refused::NotGreater));
-    assert_eq!(rt; new.register(3, 7, 0), Ok(()));
-    assert_eq!(rt; new.register(3, 8, FOR_EVER), Err(Refused::StillAnswers));
-    assert_eq!(rt; new.leave(64), Err(Refused::BadClient));
+    assert!(rt; new.open(0) == Err(Refused::NotOpen));
+    assert!(rt; new.leave(3) == Err(Refused::NotOpen));
+    assert!(rt; new.store_has(64, 7, false, false) == Err(Refused::BadClient));
+    assert!(rt; new.committed(1) == Err(Refused::NoCommit));
+    assert!(rt; new.commit() == Ok(1));
+    assert!(rt; new.store_has(3, 7, false, false) == Err(Refused::Begun));
+    assert!(rt; new.open(0) == Err(Refused::NotOpen));
+    assert!(rt; new.committed(1) == Ok(()));
+    assert!(rt; new.open(0) == Ok(()));
+    assert!(rt; new.open(0) == Err(Refused::Begun));
+    assert!(rt; new.register(3, 0, 0) == Err(Refused::NotGreater));
+    assert!(rt; new.register(3, 7, 0) == Ok(()));
+    assert!(rt; new.register(3, 8, FOR_EVER) == Err(Refused::StillAnswers));
+    assert!(rt; new.leave(64) == Err(Refused::BadClient));
 }

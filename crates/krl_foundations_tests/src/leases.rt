@@ -27,41 +27,32 @@ fn end_after(rows: &[(u64, u64, u64)]) -> (u64, u64) {
 
 #[test]
 fn a_lease_runs_from_its_sign(rt: HostRuntime) {
-    assert_eq!(rt; end_after(&[]), (FOR_EVER, 0));
-    assert_eq!(rt; end_after(&[(1000, 600, 1500)]), (1600, 600));
-    assert_eq!(rt;
-        end_after(&[(1000, 600, 1500), (1400, 500, 1599)]),
-        (1900, 500)
-    );
+    assert!(rt; end_after(&[]) == (FOR_EVER, 0));
+    assert!(rt; end_after(&[(1000, 600, 1500)]) == (1600, 600));
+    assert!(rt; end_after(&[(1000, 600, 1500), (1400, 500, 1599)]) == (1900, 500));
     // They come as it has ended; they answer an older sign; they make it shorter; they end never.
-    assert_eq!(rt;
-        end_after(&[(1000, 600, 1500), (1400, 500, 1600)]),
-        (1600, 600)
-    );
-    assert_eq!(rt;
-        end_after(&[(1000, 600, 1500), (1000, 900, 1501)]),
-        (1600, 600)
-    );
-    assert_eq!(rt; end_after(&[(1000, 600, 1500), (1001, 9, 1502)]), (1010, 9));
-    assert_eq!(rt; end_after(&[(1000, FOR_EVER, 1500)]), (FOR_EVER, FOR_EVER));
+    assert!(rt; end_after(&[(1000, 600, 1500), (1400, 500, 1600)]) == (1600, 600));
+    assert!(rt; end_after(&[(1000, 600, 1500), (1000, 900, 1501)]) == (1600, 600));
+    assert!(rt; end_after(&[(1000, 600, 1500), (1001, 9, 1502)]) == (1010, 9));
+    assert!(rt; end_after(&[(1000, FOR_EVER, 1500)]) == (FOR_EVER, FOR_EVER));
     let lease = Lease {
         end: 1600,
         length: 600,
         stamp: 1000,
     };
-    assert_eq!(rt; (lease.holds(1599), lease.holds(1600)), (true, false));
+    assert!(rt; (lease.holds(1599), lease.holds(1600)) == (true, false));
 }
 
 #[test]
 fn a_silent_client_is_evicted_after_the_drift(rt: HostRuntime) {
     let until = Until::register(TEN, SECOND);
-    assert_eq!(rt; until.moment, 13 * SECOND);
-    assert_eq!(rt; until.has_come(13 * SECOND - 1), false);
-    assert_eq!(rt; until.has_come(13 * SECOND), true);
-    assert_eq!(rt; until.sign(TEN, TEN.length, 5 * SECOND).moment, 17 * SECOND);
-    assert_eq!(rt; until.sign(TEN, 60 * SECOND, SECOND).moment, 73 * SECOND);
-    assert_eq!(rt; until.sign(TEN, 0, 0), until);
-    assert_eq!(rt;
+    assert!(rt; until.moment == 13 * SECOND);
+    assert!(rt; !until.has_come(13 * SECOND - 1));
+    assert!(rt; until.has_come(13 * SECOND));
+    assert!(rt; until.sign(TEN, TEN.length, 5 * SECOND).moment == 17 * SECOND);
+    assert!(rt; until.sign(TEN, 60 * SECOND, SECOND).moment == 73 * SECOND);
+    assert!(rt; until.sign(TEN, 0, 0) == until);
+    assert!(rt;
         Until::register(
             Terms {
                 length: 1,
@@ -69,18 +60,18 @@ fn a_silent_client_is_evicted_after_the_drift(rt: HostRuntime) {
             },
             0
         )
-        .moment,
-        2
+        .moment
+            == 2
     );
 }
 
 #[test]
 fn who_answers_for_ever_is_not_evicted(rt: HostRuntime) {
     let never = Until::register(NONE, SECOND);
-    assert_eq!(rt; (never.is_never(), never.has_come(FOR_EVER)), (true, false));
-    assert_eq!(rt; never.sign(TEN, FOR_EVER, SECOND), never);
-    assert_eq!(rt; never.sign(TEN, TEN.length, SECOND).moment, 13 * SECOND);
-    assert_eq!(rt; Until::register(TEN, FOR_EVER - 1), never);
+    assert!(rt; (never.is_never(), never.has_come(FOR_EVER)) == (true, false));
+    assert!(rt; never.sign(TEN, FOR_EVER, SECOND) == never);
+    assert!(rt; never.sign(TEN, TEN.length, SECOND).moment == 13 * SECOND);
+    assert!(rt; Until::register(TEN, FOR_EVER - 1) == never);
 }
 
 // What a server that grants leases of a minute keeps.
@@ -97,28 +88,22 @@ const UNLEASED: Kept = Kept {
 
 #[test]
 fn a_server_that_starts_waits_for_the_longest_lease(rt: HostRuntime) {
-    assert_eq!(rt; MINUTE.start(TEN), MINUTE);
+    assert!(rt; MINUTE.start(TEN) == MINUTE);
     let old = MINUTE.old_end(TEN, SECOND);
-    assert_eq!(rt; (old, old.moment), (MINUTE.until(TEN, SECOND), 73 * SECOND));
-    assert_eq!(rt; MINUTE.revise(TEN, old, old, 73 * SECOND - 1), MINUTE);
-    assert_eq!(rt;
-        MINUTE.revise(TEN, old, old, 73 * SECOND).longest,
-        TEN.length
-    );
+    assert!(rt; (old, old.moment) == (MINUTE.until(TEN, SECOND), 73 * SECOND));
+    assert!(rt; MINUTE.revise(TEN, old, old, 73 * SECOND - 1) == MINUTE);
+    assert!(rt; MINUTE.revise(TEN, old, old, 73 * SECOND).longest == TEN.length);
 }
 
 #[test]
 fn a_server_without_leases_keeps_how_long_older_ones_run(rt: HostRuntime) {
-    assert_eq!(rt; MINUTE.start(NONE), UNLEASED);
+    assert!(rt; MINUTE.start(NONE) == UNLEASED);
     let (old, never) = (MINUTE.old_end(TEN, SECOND), UNLEASED.until(TEN, SECOND));
-    assert_eq!(rt; never.is_never(), true);
-    assert_eq!(rt; UNLEASED.revise(TEN, old, never, SECOND).is_unleased, true);
-    assert_eq!(rt; UNLEASED.revise(TEN, old, old, SECOND).is_unleased, false);
-    assert_eq!(rt; UNLEASED.revise(NONE, old, old, 99 * SECOND), UNLEASED);
-    assert_eq!(rt;
-        (UNLEASED.register(TEN), MINUTE.register(NONE)),
-        (MINUTE, UNLEASED)
-    );
+    assert!(rt; never.is_never());
+    assert!(rt; UNLEASED.revise(TEN, old, never, SECOND).is_unleased);
+    assert!(rt; !UNLEASED.revise(TEN, old, old, SECOND).is_unleased);
+    assert!(rt; UNLEASED.revise(NONE, old, old, 99 * SECOND) == UNLEASED);
+    assert!(rt; (UNLEASED.register(TEN), MINUTE.register(NONE)) == (MINUTE, UNLEASED));
 }
 
 #[test]
@@ -134,35 +119,19 @@ fn a_second_process_waits_until_the_first_has_ended(rt: HostRuntime) {
         ..asks
     };
     let (until, never) = (Until { moment: 20 }, Until { moment: FOR_EVER });
-    assert_eq!(rt;
-        (until.hears(asks, 19), until.hears(sure, 19)),
-        (false, false)
-    );
-    assert_eq!(rt;
-        (until.hears(asks, 20), never.hears(sure, 20)),
-        (true, true)
-    );
-    assert_eq!(rt; never.hears(asks, FOR_EVER), false);
-    assert_eq!(rt; until.hears(TakeOver { over: 7, ..asks }, 0), true);
-    assert_eq!(rt;
-        until.hears(
-            TakeOver {
-                incarnation: 9,
-                over: 8,
-                ..asks
-            },
-            0
-        ),
-        false
-    );
-    assert_eq!(rt;
-        until.hears(
-            TakeOver {
-                incarnation: 7,
-                ..asks
-            },
-            0
-        ),
-        true
-    );
+    assert!(rt; (until.hears(asks, 19), until.hears(sure, 19)) == (false, false));
+    assert!(rt; (until.hears(asks, 20), never.hears(sure, 20)) == (true, true));
+    assert!(rt; !never.hears(asks, FOR_EVER));
+    assert!(rt; until.hears(TakeOver { over: 7, ..asks }, 0));
+    let after_another = TakeOver {
+        incarnation: 9,
+        over: 8,
+        ..asks
+    };
+    assert!(rt; !until.hears(after_another, 0));
+    let same = TakeOver {
+        incarnation: 7,
+        ..asks
+    };
+    assert!(rt; until.hears(same, 0));
 }

@@ -13,27 +13,26 @@ pub struct Survives {
     records: [Option<Record>; 4],
 }
 
-fn entries(durable: &Durable) -> [Option<(u64, Value)>; 4] {
-    let mut entries = [None; 4];
-    for i in 0..4usize {
-        entries[i] = durable.run(0).get(i).copied();
-    }
-    entries
-}
-
-fn records(durable: &Durable) -> [Option<Record>; 4] {
-    let mut records = [None; 4];
-    for i in 0..4usize {
-        records[i] = durable.record(i as u64);
-    }
-    records
+// The entry of this place, if there is one.
+fn entry(durable: &Durable, place: usize) -> Option<(u64, Value)> {
+    durable.run(0).get(place).copied()
 }
 
 pub fn surviving(durable: &Durable) -> Survives {
     Survives {
         epoch: durable.epoch(),
-        entries: entries(durable),
-        records: records(durable),
+        entries: [
+            entry(durable, 0),
+            entry(durable, 1),
+            entry(durable, 2),
+            entry(durable, 3),
+        ],
+        records: [
+            durable.record(0),
+            durable.record(1),
+            durable.record(2),
+            durable.record(3),
+        ],
     }
 }
 
@@ -88,14 +87,16 @@ pub fn showing(alloc: Global, server: &Server) -> Shows {
     }
 }
 
+// The client of this place among those that are missing, if there is one.
+fn nth(clients: &Items<u64>, place: usize) -> Option<u64> {
+    clients.as_slice().get(place).copied()
+}
+
 fn first_missing(alloc: Global, server: &Server) -> [Option<u64>; 4] {
-    let mut first = [None; 4];
-    if let Some(clients) = missing(alloc, server) {
-        for i in 0..4usize {
-            first[i] = clients.as_slice().get(i).copied();
-        }
+    match missing(alloc, server) {
+        Some(all) => [nth(&all, 0), nth(&all, 1), nth(&all, 2), nth(&all, 3)],
+        None => [None; 4],
     }
-    first
 }
 
 // Whether the server shows what it showed.

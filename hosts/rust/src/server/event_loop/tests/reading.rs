@@ -71,7 +71,7 @@ fn busy_loop() -> (ServerThread<Watching>, TcpStream, Vec<TcpStream>) {
     let end = Instant::now() + Duration::from_secs(60);
     while ready(&serving) != [1, READERS] {
         assert!(Instant::now() < end, "{:?}", ready(&serving));
-        serving.sockets.wait(&mut serving.events.connections, Duration::ZERO).unwrap();
+        serving.sockets.wait(&mut serving.events.connections, Duration::from_millis(1)).unwrap();
     }
     (serving, peer, readers)
 }
