@@ -86,7 +86,7 @@ def functions_in(path, text):
     module = "" if path in ROOTS else path[4:-3].replace("/", "::") + "::"
     for head in HEAD.finditer(text):
         indent, name = head.groups()
-        end = re.compile(rf"(?m)^{indent}}}").search(text, head.end())
+        end = re.compile(rf"(?m)^{indent}{{?}}").search(text, head.end())
         types = IMPL.findall(text[: head.start()]) if indent else []
         of = f"{types[-1]}[A-Za-z]*::" if types else ""
         yield head.start(), end.end() if end else len(text), (module, of, name)

@@ -16,8 +16,8 @@ CONSTANT = re.compile(r"(?m)^ *(?:pub(?:\([a-z]+\))? )?(?:const|static) (\w+):")
 Edit = namedtuple("Edit", "label changes functions why copy", defaults=[None])
 # Edits of one crate that are tried in one check.
 Round = namedtuple("Round", "crate edits")
-# How many wrong definitions are tried in one check, which takes up to 1.6 GB then.
-DEFINITIONS = 10
+# How many wrong definitions are tried in one check at most, which takes up to 1.6 GB then.
+DEFINITIONS = 25
 
 
 def changed_by(crate, path, at):
@@ -82,8 +82,10 @@ def edited(source, edit):
     return texts
 
 
-def changes_a_definition(edit):
-    return any(is_definition(path) for path, _, _ in edit.changes)
+def apart(edits):
+    """Those edits that change functions, and those that change definitions."""
+    changes_a_definition = lambda edit: any(is_definition(path) for path, _, _ in edit.changes)
+    return [it for it in edits if not changes_a_definition(it)], [it for it in edits if changes_a_definition(it)]
 
 
 def stands_alone(edit):
@@ -97,15 +99,11 @@ def in_copy(crate, edit, number):
     return [edit._replace(functions={copy.copy}, copy=copy)] if copy else []
 
 
-def first_round(crate, edits):
-    """Returns the edits of the next check: up to ten that change definitions, or those of different functions. One that
-    is in the way of these is made in a copy of its function; if there can be none, it is tried in another check."""
-    if changes_a_definition(edits[0]):
-        return [it for it in edits if changes_a_definition(it)][:DEFINITIONS]
-    taken, changed, source = [], set(), crate.source
+def bodies_together(crate, edits, laws):
+    """Returns those edits of functions that one check tries: of different functions, and not of these laws. One that is
+    in the way of others is made in a copy of its function; if there can be none, it is left for another check."""
+    taken, changed, source = [], set(laws), crate.source
     for number, edit in enumerate(edits):
-        if changes_a_definition(edit):
-            continue
         is_apart = changed & edit.functions or stands_alone(edit)
         texts = None if is_apart else edited(source, edit)
         if texts:
@@ -113,6 +111,14 @@ def first_round(crate, edits):
         else:
             taken += in_copy(crate, edit, number)
     return taken or edits[:1]
+
+
+def first_round(crate, edits):
+    """Returns the edits of the next check: of functions, and of definitions whose laws these do not change."""
+    bodies, definitions = apart(edits)
+    bodies = bodies_together(crate, bodies, {it for edit in definitions for it in edit.functions})
+    changed = {it for edit in bodies for it in edit.functions}
+    return bodies + [it for it in definitions if not it.functions & changed][:DEFINITIONS]
 
 
 def rounds_of(crate):

@@ -1,16 +1,16 @@
 """The checks of wrong bodies: the copy that each reads, how the prover is asked, and what it printed."""
 import functools
+import os
 import pathlib
 import re
 import shutil
 import subprocess
 import tempfile
-import time
 
 from copies import write_function
 from crates import HEAD, functions_in, libraries, names_of
 from definitions import Modules, folder_of, law_of, publish, write_definition
-from edits import changes_a_definition, edited
+from edits import apart, edited
 
 # A line of a contract, whose braces are not those of a body.
 CLAUSE = re.compile(r" *(requires|ensures|ghost)\b")
@@ -103,13 +103,19 @@ def words_for_progress(kit):
     return ["--progress"] if has_word else []
 
 
-def timed(lines):
-    """The lines that the prover prints; those of its progress state how long it took for the function, but for the
+def processor_seconds(process):
+    """The seconds of a processor that a process has taken so far."""
+    fields = pathlib.Path(f"/proc/{process}/stat").read_text(encoding="utf-8").rpartition(")")[2].split()
+    return (int(fields[11]) + int(fields[12])) / os.sysconf("SC_CLK_TCK")
+
+
+def timed(ran):
+    """The lines that the prover prints; those of its progress state what each function took of a processor, but for the
     first one, before which it reads the libraries."""
     last = None
-    for line in lines:
+    for line in ran.stdout:
         if line.startswith("checked "):
-            now = time.monotonic()
+            now = processor_seconds(ran.pid)
             if last:
                 line = f"{line.partition(',')[0]}: {now - last:.0f} s\n"
             last = now
@@ -131,7 +137,7 @@ def asked(crate, functions, room, kit, log, kept):
     words = prover_words(crate, functions, kit, kept)
     how = {"cwd": room, "stdin": subprocess.DEVNULL, "text": True, "errors": "replace"}
     with subprocess.Popen(words, stdout=subprocess.PIPE, stderr=subprocess.STDOUT, **how) as ran:
-        said = "".join(timed(ran.stdout))
+        said = "".join(timed(ran))
     if ran.returncode < 0:
         said = f"error: the check was killed, most likely for memory\n{said}"
     if log:
@@ -140,23 +146,21 @@ def asked(crate, functions, room, kit, log, kept):
     return said
 
 
-def check(crate, edits, changed, kit, log, kept):
-    """Checks the functions of a copy of the crate with these edits, and returns what the prover printed."""
-    with tempfile.TemporaryDirectory(prefix="wrong-bodies-") as room:
-        write_copy(crate, edits, changed, pathlib.Path(room))
-        return asked(crate, changed, room, kit, log, kept)
-
-
-def check_definitions(crate, edits, is_control, kit, log, kept):
-    """Checks the laws of these wrong definitions as they stand, and each over copies with its edit, and returns what
-    the prover printed, and its names of the laws over copies. As a control the copies are not edited."""
-    laws, modules = {it for edit in edits for it in edit.functions}, Modules(crate)
+def check(crate, edits, is_control, kit, log, kept):
+    """Checks the functions of a copy of the crate with these edits; and the law of each edit of definitions, as it
+    stands, and over copies that have the edit. Returns what the prover printed, and its names of the laws over copies,
+    in the order of these edits. As a control nothing is edited."""
+    bodies, definitions = apart(edits)
+    if is_control:
+        bodies = [it._replace(changes=[]) for it in bodies]
+    functions, modules = {it for edit in edits for it in edit.functions}, Modules(crate)
     with tempfile.TemporaryDirectory(prefix="wrong-bodies-") as name:
         room = pathlib.Path(name)
-        write_copy(crate, [], laws, room)
-        publish(room)
-        copies = [write_definition(modules, edit, is_control, number, room) for number, edit in enumerate(edits)]
-        return asked(crate, laws | set(copies), room, kit, log, kept), copies
+        write_copy(crate, bodies, functions, room)
+        if definitions:
+            publish(room)
+        copies = [write_definition(modules, it, is_control, number, room) for number, it in enumerate(definitions)]
+        return asked(crate, functions | set(copies), room, kit, log, kept), copies
 
 
 # ---- What the prover printed
@@ -212,9 +216,9 @@ def judge(found, is_control, refused):
 
 
 def took(functions, said):
-    """How long the prover took for these functions, if it reports that."""
+    """What these functions took of a processor, if the prover reports its progress."""
     found = [int(it[2]) for it in re.finditer(r"(?m)^checked (\S+): (\d+) s$", said) if it[1] in functions]
-    return f" in {sum(found)} s" if found else ""
+    return f" in {sum(found)} s of a processor" if found else ""
 
 
 def judge_body(edit, said, is_control):
@@ -240,16 +244,12 @@ def judge_definition(edit, number, copy, said, is_control):
 def tried(crate, edits, kit, is_control, log, kept):
     """Tries these edits, and returns each with its judgement: in one check, if the prover can read them together.
     Edits that are read by themselves may not be read together, as when they make two functions call each other."""
-    if changes_a_definition(edits[0]):
-        said, copies = check_definitions(crate, edits, is_control, kit, log, kept)
-        judged = [judge_definition(it, i, copies[i], said, is_control) for i, it in enumerate(edits)]
-    else:
-        changed = {it for edit in edits for it in edit.functions}
-        made = [it._replace(changes=[]) for it in edits] if is_control else edits
-        said = check(crate, made, changed, kit, log, kept)
-        judged = [judge_body(it, said, is_control) for it in edits]
+    said, copies = check(crate, edits, is_control, kit, log, kept)
     if is_read(said):
-        return [(it, *judgement) for it, judgement in zip(edits, judged)]
+        bodies, definitions = apart(edits)
+        judged = [(it, *judge_body(it, said, is_control)) for it in bodies]
+        numbered = enumerate(definitions)
+        return judged + [(it, *judge_definition(it, i, copies[i], said, is_control)) for i, it in numbered]
     if len(edits) == 1 or is_control:
         return [(it, False, f"BAD EDIT: the prover can't read it: {first_error(said)}") for it in edits]
     half = len(edits) // 2

@@ -11,8 +11,6 @@ copy_hosts() {
     for member in $(sed -n '/^members = \[$/,/^\]$/{/"/p}' "$top/hosts/Cargo.toml" | tr -d '",'); do
         cp -R "$top/hosts/$member" "$work/wrong/hosts"
     done
-    # The drive of a cached table has a reader over this package.
-    cp -R "$top/hosts/python" "$work/wrong/hosts"
 }
 
 # Makes a copy of the hosts with an edit.
@@ -53,53 +51,25 @@ compare_sums() {
     sums | cmp -s - "$work/sums" || fail 'an edited host has taken the place of a program of the tree'
 }
 
-# Each wrong host whose edit names a test, several at a time.
+# Each wrong host, several at a time; and servers that heed no store, for failovers.
 part_wrong() {
     need_programs
+    find_heedless
     sums >"$work/sums"
     expect 0 'the wrong hosts' "$top/tests/wrong_hosts" --work "$work/tried"
     printf 'hosts: wrong hosts: %s\n' "$(tail -n 1 "$work/log")" >&2
     compare_sums
 }
 
-# Has the drive that an edit names find something wrong, in a copy that is built.
-find_by_drive() {
-    name=$(basename "$1" .edit)
-    words=$(sed -n 's/^drive: //p' "$1")
-    if [ "${words%% *}" = cache ] && ! has_postgresql_headers; then
-        lacks "there are no header files of PostgreSQL: wrong body $name"
-        return
-    fi
-    [ "${words%% *}" != cache ] || [ -n "${KRL_POSTGRESQL-}" ] || install_extension
-    # shellcheck disable=SC2086
-    (export "WRONG_HOST_$name=1" && finds "wrong body $name" "$edited_programs/krl_drive" ${words:-kill 8}) || exit 1
-}
-
-# Builds the drives of the copy, and the library of the readers in C and Python.
-build_drives() {
-    build_edited "$1" krl_drive krl-cache-c
-}
-
-# Each other one, which a drive has to find: in one copy, in which the environment chooses one of them, and those that
-# cannot be chosen so by themselves.
-part_wrong_drives() {
+# A reader of a cached table that keeps rows of its own, which the drive of that table has to find.
+part_wrong_reader() {
+    has_postgresql_headers || not_run 'there are no header files of PostgreSQL: a wrong reader of a cached table'
     need_programs
-    find_heedless
-    sums >"$work/sums"
-    # shellcheck disable=SC2046
-    set -- $(grep -L '^test: ' "$top"/hosts/drive/wrong/*.edit)
-    copy_hosts
-    "$top/tests/edit" --chosen "$work/wrong" "$@" >"$work/alone" || fail 'an edit does not fit'
-    build_drives 'the wrong hosts of drives'
-    for edit; do
-        grep -qxF "$edit" "$work/alone" || find_by_drive "$edit"
-    done
-    while read -r edit; do
-        edited "$edit"
-        build_drives "wrong body $(basename "$edit")"
-        find_by_drive "$edit"
-    done <"$work/alone"
-    compare_sums
+    install_extension
+    mkdir -p "$work/wrong/hosts"
+    cp -R "$top/hosts/python" "$work/wrong/hosts"
+    "$top/tests/edit" "$top/hosts/drive/wrong_reader.edit" "$work/wrong" || fail 'the edit of the reader does not fit'
+    (export PYTHONPATH="$work/wrong/hosts/python" && finds 'a wrong reader' "$drive" cache 10) || exit 1
 }
 
 # Finds servers that heed no store, $heedless. They are built once for the programs that are there: before the

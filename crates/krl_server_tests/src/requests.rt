@@ -32,7 +32,8 @@ fn key_pieces(alloc: Global, keys: &[(u64, KeyPart)]) -> Result<KeyPieces, Alloc
     Ok(pieces.into())
 }
 
-fn pieces(
+/// The pieces of these ranges and keys. A range that is no span is passed over.
+pub fn pieces(
     alloc: Global,
     ranges: &[(u64, u64, RangePart)],
     keys: &[(u64, KeyPart)],

@@ -7,18 +7,12 @@ use krl_modes::Mode;
 use krl_script::{Rest, ScriptFault, Untold, bring_to_rest, busy_run, random_run, run_script};
 use krl_text::AnyWriter;
 use krl_world::{Answer, Command, Refused, Step, World};
-use std::alloc::{AllocError, Global};
-
-fn entries(alloc: Global) -> Result<Vec<(u64, Value)>, AllocError> {
-    let mut entries = Vec::new(alloc);
-    entries.push((10, Value::from_u64(1)))?;
-    entries.push((20, Value::from_u64(2)))?;
-    Ok(entries)
-}
+use std::alloc::Global;
 
 // A world of two entries.
 fn made(alloc: Global) -> Result<World, Refused> {
-    World::new(alloc, entries(alloc)?)
+    let entries = [(10, Value::from_u64(1)), (20, Value::from_u64(2))];
+    World::new(alloc, Vec::from_slice(alloc, &entries)?)
 }
 
 // The same, made again if memory was refused.

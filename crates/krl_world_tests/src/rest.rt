@@ -5,13 +5,7 @@ use krl_modes::Mode;
 use krl_script::{Rest, bring_to_rest};
 use krl_text::AnyWriter;
 use krl_world::{Command, Refused, Step, World};
-use std::alloc::{AllocError, Global};
-
-fn entries(alloc: Global) -> Result<Vec<(u64, Value)>, AllocError> {
-    let mut entries = Vec::new(alloc);
-    entries.push((10, Value::from_u64(1)))?;
-    Ok(entries)
-}
+use std::alloc::Global;
 
 /// Delivers each message in order, those too that are sent meanwhile.
 fn deliver_all(world: &mut World) {
@@ -28,7 +22,7 @@ fn asks(world: &mut World, client: u64) {
 
 /// Client 0 has the slot of point 10, client 1 runs, and all messages are delivered.
 fn held(alloc: Global) -> Result<World, Refused> {
-    let mut world = World::new(alloc, entries(alloc)?)?;
+    let mut world = World::new(alloc, Vec::from_slice(alloc, &[(10, Value::from_u64(1))])?)?;
     let _ = world.step(Step::StartClient(0));
     let _ = world.step(Step::StartClient(1));
     deliver_all(&mut world);

@@ -2,7 +2,7 @@
 use krl_messages::Value;
 use krl_modes::Mode;
 use krl_world::{Answer, Command, Refused, Step, World};
-use std::alloc::{AllocError, Global};
+use std::alloc::Global;
 
 /// Client 0 joins, and locks the slot of point 5. Each message is delivered as it is sent. Then the
 /// client scans as far as it knows, and a point further.
@@ -49,13 +49,6 @@ static NAMES: [(Refused, &str); 18] = [
     (Refused::StillRegistered(3), "StillRegistered"),
 ];
 
-fn entries(alloc: Global) -> Result<Vec<(u64, Value)>, AllocError> {
-    let mut entries = Vec::new(alloc);
-    entries.push((20, Value::from_u64(2)))?;
-    entries.push((10, Value::from_u64(1)))?;
-    Ok(entries)
-}
-
 fn is_done(answer: &Result<Answer, Refused>) -> bool {
     matches!(answer, Ok(Answer::Done))
 }
@@ -85,7 +78,8 @@ fn are_answers(answers: &[Result<Answer, Refused>]) -> bool {
 
 /// Whether a world answers them so, with as many messages sent.
 fn answers_each(alloc: Global) -> Result<bool, Refused> {
-    let mut world = World::new(alloc, entries(alloc)?)?;
+    let entries = [(20, Value::from_u64(2)), (10, Value::from_u64(1))];
+    let mut world = World::new(alloc, Vec::from_slice(alloc, &entries)?)?;
     let answers = world.run(alloc, &steps())?;
     Ok(are_answers(answers.as_slice()) && world.sent() == 6)
 }

@@ -13,7 +13,7 @@ const LIBRARY: &str = "libkrl_cache_c.so";
 /// The name by which programs look for it.
 const SONAME: &str = "libkrl_cache.so.0";
 
-/// Where the package for Python is. It may also be where the caller's `PYTHONPATH` names it.
+/// Where the package for Python is, if the caller's `PYTHONPATH` has none.
 const PYTHON_PACKAGE: &str = concat!(env!("CARGO_MANIFEST_DIR"), "/../python");
 
 /// The sources: a copy of this program may run where nobody can read the tree.
@@ -107,7 +107,7 @@ impl Programs {
     /// An interpreter that finds the package and the library, and leaves no files in the tree.
     fn python(&self) -> Command {
         let folders = match std::env::var("PYTHONPATH") {
-            Ok(others) if !others.is_empty() => format!("{PYTHON_PACKAGE}:{others}"),
+            Ok(others) if !others.is_empty() => format!("{others}:{PYTHON_PACKAGE}"),
             _ => PYTHON_PACKAGE.to_string(),
         };
         let mut python = Command::new("python3");
