@@ -4,7 +4,7 @@ import re
 from collections import defaultdict, namedtuple
 from pathlib import Path
 
-KINDS = ("file", "old", "new", "test", "drive")
+KINDS = ("file", "old", "new", "test")
 
 # The old text of a file, and the new one.
 Change = namedtuple("Change", "file old new")
@@ -83,15 +83,12 @@ def bodies(text):
 
 
 def body_of(text, change):
-    """The body in which the old text stands, or None."""
+    """The body in which the old text stands, which can be chosen."""
     at = place(text, change)
-    found = (it for it in bodies(text) if it[0] <= at and at + len(change.old) <= it[1])
-    return next(found, None) if change.file.endswith(".rs") else None
-
-
-def can_be_chosen(edit, top):
-    """Whether each change of the edit stands in a body that can be chosen in the tree `top`."""
-    return all(body_of((Path(top) / it.file).read_text(), it) for it in edit.changes)
+    for begin, end in bodies(text) if change.file.endswith(".rs") else ():
+        if begin <= at and at + len(change.old) <= end:
+            return begin, end
+    raise Refused(f"{change.file}: this text is in no body of a function that can be chosen: {change.old}")
 
 
 def choose(edits, top, folder):
