@@ -16,7 +16,8 @@ CONSTANT = re.compile(r"(?m)^ *(?:pub(?:\([a-z]+\))? )?(?:const|static) (\w+):")
 Edit = namedtuple("Edit", "label changes functions why copy", defaults=[None])
 # Edits of one crate that are tried in one check.
 Round = namedtuple("Round", "crate edits")
-# How many wrong definitions are tried in one check at most, which takes up to 1.6 GB then.
+# How many wrong definitions are tried in one check at most. The checks of krl_cached_table, with 25, and of
+# krl_progress, with 19 and 15 wrong bodies, took 0.8 and 0.9 GB.
 DEFINITIONS = 25
 
 
