@@ -13,11 +13,11 @@ work=$(mktemp -d)
 # shellcheck source-path=SCRIPTDIR source=../parts.sh
 . "$top/tests/parts.sh"
 
-# The failed tests of cargo may stand far above the end of what it printed.
+# The failed tests of cargo, and why they failed, may stand far above the end of what it printed.
 fail() {
     {
         printf 'hosts: %s: %s\n' "$part" "$1"
-        ! grep '^---- .* ----$' "$work/log" 2>/dev/null || echo '..'
+        ! grep -A 4 '^---- .* ----$' "$work/log" 2>/dev/null || echo '..'
     } | tee -a "$KRL_FOUND" >&2
     [ ! -s "$work/log" ] || tail -n 40 "$work/log" >&2
     exit 1

@@ -372,10 +372,10 @@ mod tests {
                 })
             });
             wait_until(|| looks.load(Ordering::SeqCst) > 0);
-            cluster.signal("-STOP");
+            cluster.freeze();
             // Each takes as long as a lease.
             wait_until(|| unanswered.load(Ordering::SeqCst) > 1);
-            cluster.signal("-CONT");
+            cluster.thaw();
             let before = looks.load(Ordering::SeqCst);
             wait_until(|| looks.load(Ordering::SeqCst) > before);
             set(&cluster, &request::delete(&key(&address)));
@@ -389,11 +389,11 @@ mod tests {
         let Some(cluster) = Cluster::start() else { return };
         let election = election(&cluster.address("slow"), LEASE);
         let term = election.campaign(|_| true).unwrap().unwrap();
-        cluster.signal("-STOP");
+        cluster.freeze();
         thread::scope(|scope| {
             scope.spawn(|| drop(term));
             thread::sleep(5 * LOOK);
-            cluster.signal("-CONT");
+            cluster.thaw();
         });
         let begun = Instant::now();
         assert!(election.campaign(|_| begun.elapsed() < LEASE * 2 / 3).unwrap().is_some());

@@ -2,6 +2,7 @@
 use crate::authority::Authority;
 use crate::{parsed, ports};
 use serde_json::Value as Json;
+use std::fs;
 use std::path::PathBuf;
 use std::process::{Child, Command, Stdio};
 use std::str::FromStr;
@@ -112,10 +113,31 @@ impl Cluster {
         answer_to(request.set("Authorization", &token), body)
     }
 
-    /// Stops the node where it is, and lets it continue.
-    pub fn signal(&self, signal: &str) {
+    /// Stops the node where it is, and returns once each of its threads has stopped.
+    pub fn freeze(&self) {
+        self.signal("-STOP");
+        while !self.is_frozen() {
+            thread::sleep(Duration::from_millis(1));
+        }
+    }
+
+    /// Lets the node continue.
+    pub fn thaw(&self) {
+        self.signal("-CONT");
+    }
+
+    fn signal(&self, signal: &str) {
         let status = Command::new("kill").args([signal, &self.node.id().to_string()]).status();
         assert!(status.unwrap().success());
+    }
+
+    /// On a busy machine threads go on for a while after the signal.
+    fn is_frozen(&self) -> bool {
+        let threads = fs::read_dir(format!("/proc/{}/task", self.node.id())).unwrap();
+        threads.map(|thread| fs::read_to_string(thread.unwrap().path().join("stat"))).all(|stat| {
+            // The state stands after the name, which is in parentheses.
+            stat.is_ok_and(|stat| stat.rsplit_once(") ").unwrap().1.starts_with('T'))
+        })
     }
 }
 
@@ -124,7 +146,7 @@ impl Drop for Cluster {
         // One that has ended already is gone.
         let _ = self.node.kill();
         let _ = self.node.wait();
-        let _ = std::fs::remove_dir_all(&self.folder);
+        let _ = fs::remove_dir_all(&self.folder);
     }
 }
 

@@ -127,10 +127,10 @@ fn a_cluster_that_does_not_answer_ends_the_store() {
     let address = cluster.address("away");
     let (store, _) = loaded(&address);
     let mut store = store.with_commit_timeout(Duration::from_millis(100));
-    cluster.signal("-STOP");
+    cluster.freeze();
     let asked = store.commit(&[Change::Started { epoch: 1 }]);
     assert!(matches!(asked, Err(StoreError::Unanswered(_))), "{asked:?}");
-    cluster.signal("-CONT");
+    cluster.thaw();
     let again = store.commit(&[Change::Started { epoch: 1 }]);
     assert!(matches!(again, Err(StoreError::Unanswered(_))), "also when the cluster is back");
 }
@@ -143,10 +143,10 @@ fn a_cluster_that_hangs_for_a_moment_is_waited_for() {
     store.commit(&[Change::Started { epoch: 1 }, REGISTER]).unwrap();
     apply(&mut expected, &[Change::Started { epoch: 1 }, REGISTER]);
     thread::scope(|scope| {
-        cluster.signal("-STOP");
+        cluster.freeze();
         let commit = scope.spawn(|| store.commit(&[put(1, 1)]));
         thread::sleep(Duration::from_millis(1500));
-        cluster.signal("-CONT");
+        cluster.thaw();
         commit.join().unwrap().unwrap();
     });
     assert!(store.retries() > 0);
