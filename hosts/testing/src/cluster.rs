@@ -116,7 +116,9 @@ impl Cluster {
     /// Stops the node where it is, and returns once each of its threads has stopped.
     pub fn freeze(&self) {
         self.signal("-STOP");
+        let end = Instant::now() + Duration::from_secs(60);
         while !self.is_frozen() {
+            assert!(Instant::now() < end, "etcd does not stop, or has ended");
             thread::sleep(Duration::from_millis(1));
         }
     }
