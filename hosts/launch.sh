@@ -51,15 +51,16 @@ build_hosts() {
     ! "$requirements" debian || { set -- --config debian.toml; from="Debian's packages"; }
     say "building krl-server and krl-client by cargo over $from: a minute or two on four processors"
     # Waited for, so that what ends the launcher ends cargo.
+    export CARGO_TERM_PROGRESS_WHEN=always CARGO_TERM_PROGRESS_WIDTH=80
     (cd "$top/hosts" && exec cargo build --profile first --package krl-server --package krl-client "$@") </dev/null \
         >"$work/cargo.log" 2>&1 &
     running=$!
     began=$(date +%s)
-    report_crates &
+    report_steps &
     other=$!
     wait "$running" || {
         running=
-        tail -n 40 "$work/cargo.log" >&2
+        lines_of_cargo | grep -v '^ *Building \[' | tail -n 40 >&2
         say "$host is not built; the lines above show why"
         exit 1
     }
@@ -69,12 +70,17 @@ build_hosts() {
     touch "$first/krl-server" "$first/krl-client"
 }
 
-# Reports every ten seconds how far cargo is. Nobody waits for the sleep, which outlives this, to close its output.
-report_crates() {
+# Reports every ten seconds how far cargo is: it shows 'Building [=>  ] 79/154: names', each time over the one before.
+# Nobody waits for the sleep, which outlives this, to close its output.
+report_steps() {
     while sleep 10 >/dev/null 2>&1; do
-        say "cargo has compiled or compiles $(grep -c '^ *Compiling ' "$work/cargo.log") crates," \
-            "after $(($(date +%s) - began)) seconds"
+        done_of_all=$(lines_of_cargo | sed -n 's|^ *Building \[.*\] \([0-9]*\)/\([0-9]*\).*|\1 of \2|p' | tail -n 1)
+        say "cargo has made ${done_of_all:-none of its} steps, after $(($(date +%s) - began)) seconds"
     done
+}
+
+lines_of_cargo() {
+    tr '\r' '\n' <"$work/cargo.log"
 }
 
 # Runs the server or the client with these words. A server without further words is a trial: it may make its store.
@@ -137,7 +143,7 @@ build_simulator() {
     }
     compiler=${CC-cc}
     command -v "$compiler" >/dev/null || {
-        say "there is no C compiler '$compiler', and the simulator needs one"
+        say "there is no C compiler '$compiler', and the simulator needs one: Debian's packages gcc and libc6-dev"
         exit 1
     }
     say "building the simulator over $made_of_what"

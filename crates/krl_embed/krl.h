@@ -53,10 +53,11 @@ krl_reply krl_client_tick(krl_handle *handle);
  * KRL_BAD_SPAN (`hi` not above the point, or above KRL_TOP), KRL_NOT_JOINED, KRL_BUSY, KRL_SPENT, KRL_OUT_OF_MEMORY. */
 krl_reply krl_client_lock(krl_handle *handle, uint64_t point, uint64_t hi, uint32_t mode);
 
-/* Ask for a change of the index; the status shows its number and what became of it. An insert needs a range part I
- * or X at the key; a put the key part X; a delete the key part X, and the range part X at the key and one past it.
- * Refused, in this order, by KRL_BAD_VALUE, KRL_BAD_POINT, KRL_NOT_JOINED, KRL_WRITING, KRL_NOT_HELD, KRL_SPENT,
- * KRL_OUT_OF_MEMORY. */
+/* Ask for a change of the index; the status shows its number and what became of it. An insert needs a range part I or X
+ * at the key; a put the key part X; a delete the key part X, and the range part X at the key and one past it: these two
+ * points may be of two slots, and a lock that is asked for at the key may be granted for the first one only. Then the
+ * next one is asked for one past the key. KRL_NOT_HELD does not name the point. Refused, in this order, by
+ * KRL_BAD_VALUE, KRL_BAD_POINT, KRL_NOT_JOINED, KRL_WRITING, KRL_NOT_HELD, KRL_SPENT, KRL_OUT_OF_MEMORY. */
 krl_reply krl_client_insert(krl_handle *handle, uint64_t key, const uint8_t *bytes, size_t length);
 krl_reply krl_client_put(krl_handle *handle, uint64_t key, const uint8_t *bytes, size_t length);
 krl_reply krl_client_delete(krl_handle *handle, uint64_t key);

@@ -49,6 +49,7 @@ typedef struct Task
 static Task task;
 static int	my_number;
 static KrlWorker *my_worker;
+static bool is_about_to_sleep = false;
 
 /* A server that is gone cannot be started again before its last process has ended. */
 bool
@@ -253,6 +254,18 @@ end_claim(void)
 		krl_wake_workers(krl_workers);
 }
 
+/*
+ * The worker does not sleep after all.  If it was woken for another request
+ * than the one that it has begun, another worker is woken for that.
+ */
+static void
+stay_awake(void)
+{
+	if (is_about_to_sleep && !pg_atomic_exchange_u32(&my_worker->sleeps, false))
+		krl_wake_workers(1);
+	is_about_to_sleep = false;
+}
+
 /* Begins the next span of a backend's request, if that waits and no other worker does keys of the span. */
 static bool
 begin_task(uint32 procno, bool takes_set_aside)
@@ -279,6 +292,7 @@ begin_task(uint32 procno, bool takes_set_aside)
 		return false;
 	}
 	task.request = request;
+	stay_awake();
 	return true;
 }
 
@@ -381,9 +395,12 @@ krl_answer_one(krlc_client *client, int number)
 	answer = do_next_task(client);
 	if (answer != KRL_IDLE)
 		return answer;
+	is_about_to_sleep = true;
 	pg_atomic_write_u32(&my_worker->sleeps, true);
 	pg_memory_barrier();
-	return do_next_task(client);
+	answer = do_next_task(client);
+	is_about_to_sleep = false;
+	return answer;
 }
 
 /* This worker ends: another one does what it was about to do. */

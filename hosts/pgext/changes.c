@@ -193,6 +193,20 @@ take_back(uint64 *keys, int nkeys)
 		krl_note_recalled(keys[i]);
 }
 
+/*
+ * Takes everything back from all caches at once.  Until the transaction ends,
+ * no reader begins to keep a row.
+ */
+void
+krl_take_all_back(void)
+{
+	uint64		mark = KRL_CLUSTER_MARK;
+
+	krl_give_notice(mark);
+	pg_memory_barrier();
+	take_back(&mark, 1);
+}
+
 /* Nothing of the transaction may be visible before it is on the disk: readers would keep it. */
 static void
 before_commit(void)

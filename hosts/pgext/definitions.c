@@ -7,7 +7,8 @@
  * its partitions, takes the mark of the table, and so all its rows back from
  * all caches: it may have rewritten the table, or have changed which rows
  * belong to it or who may see them.  One that changes what any tables may
- * depend on, as a schema, a type or a role, takes the mark of the cluster.
+ * depend on, such as a schema, a type, a role or the name of a database, takes
+ * the mark of the cluster.
  *
  *-------------------------------------------------------------------------
  */
@@ -15,6 +16,7 @@
 
 #include "access/genam.h"
 #include "access/htup_details.h"
+#include "access/relation.h"
 #include "access/table.h"
 #include "access/xact.h"
 #include "catalog/indexing.h"
@@ -22,6 +24,7 @@
 #include "catalog/objectaccess.h"
 #include "catalog/pg_authid.h"
 #include "catalog/pg_class.h"
+#include "catalog/pg_database.h"
 #include "catalog/pg_inherits.h"
 #include "catalog/pg_namespace.h"
 #include "catalog/pg_trigger.h"
@@ -111,6 +114,24 @@ note_relation(Oid relation)
 		note_all();
 }
 
+/* The triggers find the columns of the key by their names. */
+static void
+refuse_if_key(Oid table, const char *column)
+{
+	Relation	relation = try_relation_open(table, AccessShareLock);
+
+	if (!relation)
+		return;
+	for (int i = 0; relation->trigdesc && i < relation->trigdesc->numtriggers; i++)
+		if (krl_is_key_column(&relation->trigdesc->triggers[i], column))
+			ereport(ERROR,
+					(errcode(ERRCODE_DEPENDENT_OBJECTS_STILL_EXIST),
+					 errmsg("cannot rename or drop column \"%s\" of table \"%s\": the table is cached by it",
+							column, RelationGetRelationName(relation)),
+					 errhint("Call krl.uncache before.")));
+	relation_close(relation, AccessShareLock);
+}
+
 /* Whether an access changes an object: a column that is added to a relation is created. */
 static bool
 is_change(ObjectAccessType access, Oid class, int sub)
@@ -125,6 +146,8 @@ note_object(ObjectAccessType access, Oid class, Oid object, int sub, void *arg)
 {
 	if (!is_change(access, class, sub))
 		return;
+	if (class == RelationRelationId && access == OAT_DROP && sub > 0)
+		refuse_if_key(object, get_attname(object, sub, false));
 	if (class == TriggerRelationId)
 		(void) note_triggers(TriggerOidIndexId, Anum_pg_trigger_oid, object);
 	else if (class == RelationRelationId)
@@ -135,6 +158,9 @@ note_object(ObjectAccessType access, Oid class, Oid object, int sub, void *arg)
 	else if (class == NamespaceRelationId && access == OAT_POST_ALTER)
 		/* The names of its tables may be those of others after this. */
 		note_all();
+	else if (class == DatabaseRelationId)
+		/* Its files may be removed before the commit, which may fail. */
+		krl_take_all_back();
 }
 
 static void
@@ -188,6 +214,32 @@ note_revoked(const GrantStmt *statement)
 			(void) note_name(lfirst_node(RangeVar, cell));
 	else if (statement->objtype == OBJECT_TABLE || statement->objtype == OBJECT_SCHEMA)
 		note_all();
+	else if (statement->objtype == OBJECT_DATABASE)
+		krl_note_mark(KRL_CLUSTER_MARK);
+}
+
+/* A column that is renamed is so in all tables that inherit from its own. */
+static void
+refuse_if_key_is_renamed(const RenameStmt *statement)
+{
+	Oid			table = RangeVarGetRelid(statement->relation, NoLock, true);
+	ListCell   *cell;
+
+	if (OidIsValid(table))
+		foreach(cell, find_all_inheritors(table, NoLock, NULL))
+			refuse_if_key(lfirst_oid(cell), statement->subname);
+}
+
+/* The name of a role may be that of another one after this. */
+static void
+note_renamed(const RenameStmt *statement)
+{
+	if (statement->renameType == OBJECT_ROLE)
+		krl_note_mark(KRL_CLUSTER_MARK);
+	else
+		(void) note_name(statement->relation);
+	if (statement->renameType == OBJECT_COLUMN)
+		refuse_if_key_is_renamed(statement);
 }
 
 /* From PostgreSQL 16 on, GRANT .. WITH INHERIT FALSE revokes too. */
@@ -201,7 +253,7 @@ revokes_role(const GrantRoleStmt *statement)
 #endif
 }
 
-/* Whether the option takes from the role what it has. */
+/* Whether the option takes from the role what it has, or may do so. */
 static bool
 is_taken(DefElem *option, Form_pg_authid role)
 {
@@ -209,7 +261,10 @@ is_taken(DefElem *option, Form_pg_authid role)
 		return role->rolsuper && !defGetBoolean(option);
 	if (strcmp(option->defname, "inherit") == 0)
 		return role->rolinherit && !defGetBoolean(option);
-	return false;
+	if (strcmp(option->defname, "canlogin") == 0)
+		return role->rolcanlogin && !defGetBoolean(option);
+	return strcmp(option->defname, "validUntil") == 0 ||
+		strcmp(option->defname, "connectionlimit") == 0;
 }
 
 /* Whether a statement takes rights from a role, or roles from a group. */
@@ -240,7 +295,7 @@ note_statement(Node *statement)
 				refuse_concurrent_detach((AlterTableStmt *) statement);
 			break;
 		case T_RenameStmt:
-			(void) note_name(((RenameStmt *) statement)->relation);
+			note_renamed((RenameStmt *) statement);
 			break;
 		case T_AlterObjectSchemaStmt:
 			(void) note_name(((AlterObjectSchemaStmt *) statement)->relation);

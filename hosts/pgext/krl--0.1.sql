@@ -1,5 +1,15 @@
 \echo Use "CREATE EXTENSION krl" to load this file. \quit
 
+-- Who owns the schema may make functions there that operators call in place of these.
+DO $$
+BEGIN
+    IF NOT (SELECT rolsuper FROM pg_catalog.pg_namespace JOIN pg_catalog.pg_roles ON pg_roles.oid = nspowner
+        WHERE nspname = 'krl') THEN
+        RAISE EXCEPTION 'schema "krl" belongs to a role that is not a superuser'
+            USING ERRCODE = 'invalid_schema_definition', HINT = 'Drop it: CREATE EXTENSION makes it.';
+    END IF;
+END $$;
+
 -- The keys of krl that no table has had: those of a table are never used for another one. There is one row, or none at
 -- first: a dump has the row.
 CREATE TABLE krl.free_keys (
@@ -19,8 +29,9 @@ COMMENT ON COLUMN krl.cached.mark IS 'the key of krl of the table''s mark, which
 COMMENT ON COLUMN krl.cached.by_remainder IS
     'whether the stripe of a key is its remainder by the number of stripes, and not krl.stripe';
 
+-- Whoever dumps the database reads both tables, and a reader the second one.
 GRANT USAGE ON SCHEMA krl TO PUBLIC;
-GRANT SELECT ON krl.cached TO PUBLIC;
+GRANT SELECT ON krl.free_keys, krl.cached TO PUBLIC;
 SELECT pg_catalog.pg_extension_config_dump('krl.free_keys', '');
 SELECT pg_catalog.pg_extension_config_dump('krl.cached', '');
 
@@ -32,7 +43,7 @@ COMMENT ON FUNCTION krl.changed() IS
 
 -- A table that is dropped is no longer cached, whoever drops it.
 CREATE FUNCTION krl.forget_dropped() RETURNS event_trigger
-    LANGUAGE plpgsql SECURITY DEFINER SET search_path = pg_catalog AS $$
+    LANGUAGE plpgsql SECURITY DEFINER SET search_path = pg_catalog, pg_temp AS $$
 BEGIN
     DELETE FROM krl.cached WHERE relation IN (SELECT objid FROM pg_event_trigger_dropped_objects()
         WHERE classid = 'pg_class'::regclass AND objsubid = 0);
@@ -93,6 +104,8 @@ GRANT SELECT ON krl.waiting TO pg_monitor;
 
 CREATE FUNCTION krl.skipped() RETURNS bigint
     LANGUAGE C STRICT VOLATILE AS 'MODULE_PATHNAME', 'krl_skipped';
+REVOKE ALL ON FUNCTION krl.skipped() FROM PUBLIC;
+GRANT EXECUTE ON FUNCTION krl.skipped() TO pg_monitor;
 COMMENT ON FUNCTION krl.skipped() IS
     'how many keys were changed of which nobody had kept anything';
 
@@ -109,26 +122,37 @@ COMMENT ON FUNCTION krl.resume() IS 'transactions wait for krl again, and reader
 
 -- The columns of the primary key, in their order, or null if there is none.
 CREATE FUNCTION krl.primary_key(relation regclass) RETURNS name[]
-    LANGUAGE sql STABLE SET search_path = pg_catalog AS $$
+    LANGUAGE sql STABLE SET search_path = pg_catalog, pg_temp AS $$
     SELECT array_agg(attname ORDER BY place)
     FROM pg_index, unnest(indkey::smallint[]) WITH ORDINALITY AS part (attnum, place)
         JOIN pg_attribute USING (attnum)
     WHERE indrelid = relation AND indisprimary AND attrelid = relation AND place <= indnkeyatts
 $$;
+REVOKE ALL ON FUNCTION krl.primary_key(regclass) FROM PUBLIC;
+
+-- The triggers of the table with this mark and of its partitions, also of those that were detached.
+CREATE FUNCTION krl.triggers(mark integer) RETURNS SETOF pg_catalog.pg_trigger
+    LANGUAGE sql STABLE SET search_path = pg_catalog, pg_temp AS $$
+    SELECT * FROM pg_trigger
+    WHERE tgfoid = 'krl.changed()'::regprocedure AND split_part(encode(tgargs, 'escape'), E'\\000', 1) = mark::text
+$$;
+REVOKE ALL ON FUNCTION krl.triggers(integer) FROM PUBLIC;
 
 -- Reports why the table cannot be cached by these columns, if it cannot.
 CREATE FUNCTION krl.require_cacheable(relation regclass, key_columns name[]) RETURNS void
-    LANGUAGE plpgsql SET search_path = pg_catalog AS $$
+    LANGUAGE plpgsql SET search_path = pg_catalog, pg_temp AS $$
 DECLARE
     class pg_class := (SELECT class FROM pg_class AS class WHERE oid = relation);
+    fleeting regclass := (SELECT min(oid) FROM pg_class WHERE relpersistence <> 'p'
+        AND (oid = relation OR oid IN (SELECT relid FROM pg_partition_tree(relation))));
     name name;
     attribute pg_attribute;
 BEGIN
     IF class.relkind NOT IN ('r', 'p') THEN
         RAISE EXCEPTION 'cannot cache "%": it is not a table', relation
             USING ERRCODE = 'wrong_object_type';
-    ELSIF class.relpersistence <> 'p' THEN
-        RAISE EXCEPTION 'cannot cache "%": it is a temporary or unlogged table', relation
+    ELSIF fleeting IS NOT NULL THEN
+        RAISE EXCEPTION 'cannot cache "%": "%" is a temporary or unlogged table', relation, fleeting
             USING ERRCODE = 'wrong_object_type';
     ELSIF class.relrowsecurity THEN
         RAISE EXCEPTION 'cannot cache "%": its rows are under row-level security', relation
@@ -161,26 +185,11 @@ BEGIN
         END IF;
     END LOOP;
 END $$;
-
--- The trigger of TRUNCATE is not one that partitions have from their table.
-CREATE FUNCTION krl.add_truncate_triggers(relation regclass, arguments text) RETURNS void
-    LANGUAGE plpgsql SET search_path = pg_catalog AS $$
-DECLARE
-    part regclass;
-BEGIN
-    FOR part IN
-        SELECT relation UNION SELECT relid FROM pg_partition_tree(relation)
-        EXCEPT SELECT tgrelid FROM pg_trigger WHERE tgname = 'krl_truncated'
-    LOOP
-        EXECUTE format('CREATE TRIGGER krl_truncated AFTER TRUNCATE ON %s
-            FOR EACH STATEMENT EXECUTE FUNCTION krl.changed(%s)', part, arguments);
-        EXECUTE format('ALTER TABLE %s ENABLE ALWAYS TRIGGER krl_truncated', part);
-    END LOOP;
-END $$;
+REVOKE ALL ON FUNCTION krl.require_cacheable(regclass, name[]) FROM PUBLIC;
 
 CREATE FUNCTION krl.cache(relation regclass, key_columns name[] DEFAULT NULL,
     stripes integer DEFAULT 4096) RETURNS void
-    LANGUAGE plpgsql SET search_path = pg_catalog AS $$
+    LANGUAGE plpgsql SET search_path = pg_catalog, pg_temp AS $$
 DECLARE
     columns name[];
     entry krl.cached;
@@ -211,37 +220,56 @@ REVOKE ALL ON FUNCTION krl.cache(regclass, name[], integer) FROM PUBLIC;
 COMMENT ON FUNCTION krl.cache(regclass, name[], integer) IS
     'lets readers keep rows of the table; called again, also those of new partitions, and by another store of krl';
 
--- The triggers of a table and of all its partitions, if it lacks them.
+-- The table and all its partitions get the triggers that they lack, and all of them fire always. Partitions have that
+-- of rows from their table, and so their owner makes it, but not that of TRUNCATE.
 CREATE FUNCTION krl.add_triggers(cached krl.cached) RETURNS void
-    LANGUAGE plpgsql SET search_path = pg_catalog AS $$
+    LANGUAGE plpgsql SET search_path = pg_catalog, pg_temp AS $$
 DECLARE
     arguments text := (SELECT string_agg(quote_literal(word), ', ') FROM unnest(
         ARRAY[cached.mark::text, cached.stripes::text,
             CASE WHEN cached.by_remainder THEN 'remainder' ELSE 'hash' END]
         || cached.key_columns::text[]) AS word);
+    part regclass;
+    name name;
 BEGIN
     IF NOT EXISTS (SELECT FROM pg_trigger
         WHERE tgrelid = cached.relation AND tgname = 'krl_changed') THEN
         EXECUTE format('CREATE TRIGGER krl_changed AFTER INSERT OR UPDATE OR DELETE ON %s
             FOR EACH ROW EXECUTE FUNCTION krl.changed(%s)', cached.relation, arguments);
     END IF;
-    EXECUTE format('ALTER TABLE %s ENABLE ALWAYS TRIGGER krl_changed', cached.relation);
-    PERFORM krl.add_truncate_triggers(cached.relation, arguments);
+    FOR part IN
+        SELECT cached.relation UNION SELECT relid FROM pg_partition_tree(cached.relation)
+        EXCEPT SELECT tgrelid FROM krl.triggers(cached.mark) WHERE tgname = 'krl_truncated'
+    LOOP
+        EXECUTE format('CREATE OR REPLACE TRIGGER krl_truncated AFTER TRUNCATE ON %s
+            FOR EACH STATEMENT EXECUTE FUNCTION krl.changed(%s)', part, arguments);
+    END LOOP;
+    FOR part, name IN SELECT tgrelid, tgname FROM krl.triggers(cached.mark) WHERE tgenabled <> 'A' LOOP
+        EXECUTE format('ALTER TABLE ONLY %s ENABLE ALWAYS TRIGGER %I', part, name);
+    END LOOP;
+    SELECT pg_get_userbyid(relowner) INTO name FROM pg_class WHERE oid = cached.relation AND relkind = 'p'
+        AND NOT has_function_privilege(relowner, 'krl.changed()', 'EXECUTE');
+    IF FOUND THEN
+        EXECUTE format('GRANT EXECUTE ON FUNCTION krl.changed() TO %I', name);
+    END IF;
 END $$;
+REVOKE ALL ON FUNCTION krl.add_triggers(krl.cached) FROM PUBLIC;
 
 CREATE FUNCTION krl.uncache(relation regclass) RETURNS void
-    LANGUAGE plpgsql SET search_path = pg_catalog AS $$
+    LANGUAGE plpgsql SET search_path = pg_catalog, pg_temp AS $$
 DECLARE
+    entry krl.cached;
     part regclass;
+    name name;
 BEGIN
-    DELETE FROM krl.cached WHERE cached.relation = uncache.relation;
+    DELETE FROM krl.cached WHERE cached.relation = uncache.relation RETURNING * INTO entry;
     IF NOT FOUND THEN
         RAISE EXCEPTION 'table "%" is not cached', relation
             USING ERRCODE = 'object_not_in_prerequisite_state';
     END IF;
-    EXECUTE format('DROP TRIGGER IF EXISTS krl_changed ON %s', relation);
-    FOR part IN SELECT relation UNION SELECT relid FROM pg_partition_tree(relation) LOOP
-        EXECUTE format('DROP TRIGGER IF EXISTS krl_truncated ON %s', part);
+    -- Those of the partitions go with that of their table, and those of partitions that were detached are left.
+    FOR part, name IN SELECT tgrelid, tgname FROM krl.triggers(entry.mark) WHERE tgparentid = 0 LOOP
+        EXECUTE format('DROP TRIGGER %I ON %s', name, part);
     END LOOP;
 END $$;
 REVOKE ALL ON FUNCTION krl.uncache(regclass) FROM PUBLIC;

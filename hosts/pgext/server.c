@@ -211,6 +211,31 @@ stop_server(void)
 	}
 }
 
+static bool
+runs_any_worker(void)
+{
+	for (int number = 0; number < krl_workers; number++)
+		if (pg_atomic_read_u32(&krl_shared->workers[number].procno) != KRL_NO_PROCESS)
+			return true;
+	return false;
+}
+
+/*
+ * If PostgreSQL stops, its workers leave krl at the same time.  The next server
+ * waits until the lease of one has ended that could not.
+ */
+static void
+let_workers_leave(void)
+{
+	for (int waited = 0; waited < STOP_MS && runs_any_worker() && PostmasterIsAlive(); waited += POLL_MS)
+	{
+		if (notice_end() || server == 0)
+			return;
+		copy_log();
+		pg_usleep(POLL_MS * 1000L);
+	}
+}
+
 /* Returns how long the worker may sleep. */
 static long
 watch(void)
@@ -272,6 +297,7 @@ krl_server_main(Datum number)
 		(void) WaitLatchOrSocket(MyLatch, events, log_end, sleep, PG_WAIT_EXTENSION);
 		ResetLatch(MyLatch);
 	}
+	let_workers_leave();
 	proc_exit(1);				/* it is started again, unless PostgreSQL stops */
 }
 

@@ -7,9 +7,11 @@
  */
 #include "postgres.h"
 
+#include "access/htup_details.h"
 #include "access/relation.h"
 #include "access/xact.h"
 #include "access/xlog.h"
+#include "catalog/pg_authid.h"
 #include "catalog/pg_inherits.h"
 #include "catalog/pg_type.h"
 #include "commands/trigger.h"
@@ -20,8 +22,10 @@
 #include "utils/acl.h"
 #include "utils/array.h"
 #include "utils/builtins.h"
+#include "utils/inval.h"
 #include "utils/lsyscache.h"
 #include "utils/rel.h"
+#include "utils/syscache.h"
 
 #include "changes.h"
 #include "stripes.h"
@@ -50,13 +54,17 @@ enabled_trigger(Relation relation, const char *name)
 	return NULL;
 }
 
-/* Rows of a foreign table change elsewhere, and row-level security shows each role others. */
+/*
+ * Rows of a foreign table change elsewhere, those of an unlogged one go with a
+ * crash, and row-level security shows each role others.
+ */
 static bool
 is_plain(Relation relation)
 {
 	char		kind = relation->rd_rel->relkind;
 
 	return (kind == RELKIND_RELATION || kind == RELKIND_PARTITIONED_TABLE) &&
+		relation->rd_rel->relpersistence == RELPERSISTENCE_PERMANENT &&
 		!relation->rd_rel->relrowsecurity;
 }
 
@@ -104,6 +112,26 @@ require_select(Oid table)
 
 	if (result != ACLCHECK_OK)
 		aclcheck_error(result, get_relkind_objtype(get_rel_relkind(table)), get_rel_name(table));
+}
+
+/* Whether PostgreSQL would admit the role of this session again. */
+static bool
+may_connect(void)
+{
+	Oid			role = GetSessionUserId();
+	HeapTuple	tuple;
+	bool		may_log_in;
+
+	AcceptInvalidationMessages();
+	tuple = SearchSysCache1(AUTHOID, ObjectIdGetDatum(role));
+	if (!HeapTupleIsValid(tuple))
+		return false;
+	may_log_in = ((Form_pg_authid) GETSTRUCT(tuple))->rolcanlogin;
+	ReleaseSysCache(tuple);
+	return may_log_in &&
+		DatumGetBool(DirectFunctionCall3(has_database_privilege_id_id, ObjectIdGetDatum(role),
+										 ObjectIdGetDatum(MyDatabaseId),
+										 CStringGetTextDatum("CONNECT")));
 }
 
 static Wanted
@@ -205,10 +233,10 @@ krl_quiet(PG_FUNCTION_ARGS)
 	Wanted		wanted = read_wanted(mark, PG_GETARG_ARRAYTYPE_P(3));
 
 	require_select(table);
-	/* The triggers are looked at after the notices too: who drops one gives notice first. */
+	/* The triggers and the role are looked at after the notices: who changes one gives notice first. */
 	PG_RETURN_BOOL(is_open(nonce) && is_next_snapshot_new() &&
 				   is_table_guarded(table, mark) && are_quiet(&wanted) &&
-				   is_table_guarded(table, mark));
+				   is_table_guarded(table, mark) && may_connect());
 }
 
 PG_FUNCTION_INFO_V1(krl_addresses);

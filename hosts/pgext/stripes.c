@@ -12,6 +12,7 @@
 #include "postgres.h"
 
 #include "catalog/namespace.h"
+#include "catalog/pg_trigger.h"
 #include "catalog/pg_type.h"
 #include "executor/spi.h"
 #include "fmgr.h"
@@ -28,6 +29,9 @@
 /* Stands between the texts of two columns. */
 #define SEPARATOR 0x1f
 
+/* The first argument of a trigger that is a column of the key. */
+#define FIRST_COLUMN 3
+
 /* Whether this is krl.changed, by which the triggers of cached tables note changes. */
 bool
 krl_is_trigger_function(Oid function)
@@ -36,6 +40,18 @@ krl_is_trigger_function(Oid function)
 
 	return name && strcmp(name, "changed") == 0 &&
 		get_func_namespace(function) == get_namespace_oid("krl", true);
+}
+
+/* Whether the trigger finds the stripes of rows by this column. */
+bool
+krl_is_key_column(const Trigger *trigger, const char *column)
+{
+	if (!TRIGGER_FOR_ROW(trigger->tgtype) || !krl_is_trigger_function(trigger->tgfoid))
+		return false;
+	for (int i = FIRST_COLUMN; i < trigger->tgnargs; i++)
+		if (strcmp(trigger->tgargs[i], column) == 0)
+			return true;
+	return false;
 }
 
 /* Returns the stripe of a key that has these texts, which are the same in each session. */
@@ -69,7 +85,7 @@ stripe_of_integer(int64 key, uint32 nstripes)
 void
 krl_read_stripes(const Trigger *trigger, KrlStripes *stripes)
 {
-	if (trigger->tgnargs < 4 || trigger->tgnargs > 3 + INDEX_MAX_KEYS)
+	if (trigger->tgnargs <= FIRST_COLUMN || trigger->tgnargs > FIRST_COLUMN + INDEX_MAX_KEYS)
 		ereport(ERROR,
 				(errcode(ERRCODE_OBJECT_NOT_IN_PREREQUISITE_STATE),
 				 errmsg("trigger \"%s\" does not have the arguments of krl.cache",
@@ -77,8 +93,8 @@ krl_read_stripes(const Trigger *trigger, KrlStripes *stripes)
 	stripes->mark = strtoul(trigger->tgargs[0], NULL, 10);
 	stripes->count = strtoul(trigger->tgargs[1], NULL, 10);
 	stripes->by_remainder = strcmp(trigger->tgargs[2], "remainder") == 0;
-	stripes->columns = trigger->tgargs + 3;
-	stripes->ncolumns = trigger->tgnargs - 3;
+	stripes->columns = trigger->tgargs + FIRST_COLUMN;
+	stripes->ncolumns = trigger->tgnargs - FIRST_COLUMN;
 	if (stripes->count < 1 || stripes->count >= (uint32) krl_stripes ||
 		stripes->mark >= (uint32) krl_stripes - stripes->count)
 		ereport(ERROR,

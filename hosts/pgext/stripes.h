@@ -29,6 +29,7 @@ typedef struct KrlStripes
 } KrlStripes;
 
 extern bool krl_is_trigger_function(Oid function);
+extern bool krl_is_key_column(const Trigger *trigger, const char *column);
 extern void krl_read_stripes(const Trigger *trigger, KrlStripes *stripes);
 extern uint64 krl_stripe_of_row(const KrlStripes *stripes, HeapTuple row, TupleDesc desc);
 

@@ -70,16 +70,23 @@ text_or_null(const char *setting)
 	return setting && setting[0] ? setting : NULL;
 }
 
-/* Joins krl's server.  The threads of the client take no signals of PostgreSQL. */
+/*
+ * Joins krl's server, unless it has.  The threads of the client take no signals
+ * of PostgreSQL.
+ */
 static bool
 join(krlc_error *error)
 {
-	char	   *lock_file = psprintf("%s/worker-%d.lock", krl_directory_path(), my_number);
 	krlc_options options = {.size = sizeof(options)};
+	char	   *lock_file;
 	sigset_t	all;
 	sigset_t	before;
 	uint32		code;
 
+	if (client)
+		return true;
+	joined_in = pg_atomic_read_u32(&krl_shared->joining);
+	lock_file = psprintf("%s/worker-%d.lock", krl_directory_path(), my_number);
 	options.servers = krl_server_address();
 	options.table = text_or_null(krl_table_name);
 	options.tls_authority = text_or_null(krl_tls_authority);
@@ -137,8 +144,7 @@ is_lease_covered(krlc_error *error)
 static bool
 get_ready(krlc_error *error)
 {
-	return (client || join(error)) &&
-		is_lease_covered(error) &&
+	return is_lease_covered(error) &&
 		krl_store_is_own(client, my_number, error) &&
 		(my_number > 0 || take_mark(error));
 }
@@ -159,7 +165,12 @@ try_to_get_ready(void)
 {
 	krlc_error	error = {0};
 
-	joined_in = pg_atomic_read_u32(&krl_shared->joining);
+	/* A server of krl that has started again serves nobody until all its clients have joined again. */
+	if (!join(&error))
+	{
+		report_fault(error.sentence);
+		return false;
+	}
 	/* Readers that still ask the old primary may keep rows until this one has the mark. */
 	if (my_number > 0 && pg_atomic_read_u32(&krl_shared->marked_in) != joined_in)
 	{

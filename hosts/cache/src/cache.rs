@@ -1,21 +1,24 @@
 //! What the tables of a process share: connections to the database, and one client of krl.
 use crate::PostgresAddress;
 use crate::error::ReadError;
+use crate::fault_note::FaultNote;
 use crate::loader::{Errand, Loader};
-use crate::session::Session;
+use crate::locks::JoinedLocks;
+use crate::session::{Ending, Fate, Session};
 use crate::table::Table;
 use krl::TlsConfig;
 use krl_postgres::Connector;
+use std::convert::Infallible;
 use std::fmt;
 use std::fs;
 use std::io;
 use std::ops::Range;
 use std::path::{Path, PathBuf};
 use std::sync::atomic::{AtomicU64, Ordering};
-use std::sync::mpsc::{SyncSender, sync_channel};
+use std::sync::mpsc::{Receiver, SyncSender, sync_channel};
 use std::sync::{Arc, Mutex, MutexGuard, PoisonError};
-use std::thread::{self, JoinHandle};
-use std::time::Duration;
+use std::thread;
+use std::time::{Duration, Instant};
 
 /// How many bytes of rows of a table are kept, by default.
 const MEMORY: usize = 64 << 20;
@@ -26,8 +29,14 @@ const TIMEOUT: Duration = Duration::from_secs(30);
 /// The numbers of krl's clients that readers take, by default: the extension has those from 56 on.
 const NUMBERS: Range<u8> = 0..56;
 
+/// How long a cache that is closed waits for its loader.
+const LAST_LOAD: Duration = Duration::from_secs(1);
+
 /// This many connections are kept for later calls.
 const MOST_IDLE: usize = 16;
+
+/// How long a read that is late waits until the database has ended its statement.
+const CANCEL: Duration = Duration::from_secs(1);
 
 /// This many misses wait for the loader. It learns of no further ones.
 const MOST_ERRANDS: usize = 256;
@@ -38,7 +47,8 @@ const MOST_ERRANDS: usize = 256;
 pub struct Cache {
     shared: Arc<Shared>,
     errands: SyncSender<Errand>,
-    loader: JoinHandle<()>,
+    /// Ends when the loader does.
+    loader: Mutex<Receiver<Infallible>>,
 }
 
 /// The settings of a cache before it is opened.
@@ -63,12 +73,16 @@ pub(crate) struct KrlPlace {
 /// What all tables use.
 pub(crate) struct Shared {
     connector: Connector,
+    pub locks: JoinedLocks,
     pub memory: usize,
     timeout: Duration,
     idle: Mutex<Vec<Session>>,
+    /// Connections whose statements the database has not ended yet.
+    late: Mutex<Vec<Ending>>,
     /// How many definitions of tables were found.
     definitions: AtomicU64,
-    fault: Mutex<Option<String>>,
+    /// Why the rows of no table are kept.
+    pub fault: FaultNote,
 }
 
 impl CacheBuilder {
@@ -97,7 +111,8 @@ impl CacheBuilder {
         CacheBuilder { memory: bytes, ..self }
     }
 
-    /// How long a read waits for an answer from the database: 30 seconds by default.
+    /// How long a read waits for an answer from the database: 30 seconds by default. One that is late
+    /// fails, and up to a second later, since its statement is canceled there.
     pub fn timeout(self, timeout: Duration) -> CacheBuilder {
         CacheBuilder { timeout, ..self }
     }
@@ -111,15 +126,27 @@ impl CacheBuilder {
     pub fn open(self) -> Result<Cache, ReadError> {
         let CacheBuilder { database, user, krl, memory, timeout } = self;
         make_lock_folder(&krl.lock_folder)?;
-        let connector = Connector::new(&database, user.as_ref()).map_err(ReadError::Database)?;
-        let (idle, definitions, fault) = (Mutex::default(), AtomicU64::new(0), Mutex::default());
-        let shared = Shared { connector, memory, timeout, idle, definitions, fault };
-        let shared = Arc::new(shared);
+        let connector = Connector::new(&database, user.as_ref());
+        let connector = connector.map_err(ReadError::without_code)?;
+        let shared = Arc::new(Shared {
+            connector,
+            locks: JoinedLocks::default(),
+            memory,
+            timeout,
+            idle: Mutex::default(),
+            late: Mutex::default(),
+            definitions: AtomicU64::new(0),
+            fault: FaultNote::default(),
+        });
         let (errands, received) = sync_channel(MOST_ERRANDS);
         let loader = Loader::new(Arc::clone(&shared), krl, received);
         let thread = thread::Builder::new().name("krl-cache loader".to_string());
-        let loader = thread.spawn(move || loader.run())?;
-        Ok(Cache { shared, errands, loader })
+        let (ends, ended) = sync_channel(0);
+        thread.spawn(move || {
+            let _ends = ends;
+            loader.run();
+        })?;
+        Ok(Cache { shared, errands, loader: Mutex::new(ended) })
     }
 }
 
@@ -133,9 +160,10 @@ impl Cache {
         CacheBuilder { database, user: None, krl, memory: MEMORY, timeout: TIMEOUT }
     }
 
-    /// Opens a table by its name, which may have a schema. Names are those of SQL: one that is not
-    /// in lower case stands in quotes. Each call begins with empty memory, so a program keeps what
-    /// it returns, and clones it.
+    /// Opens a table by its name. Names are those of SQL: one that is not in lower case stands in
+    /// quotes. One without a schema is looked up by the role's search path, once: the table is then
+    /// that of this name in the schema in which it was found. Each call begins with empty memory, so
+    /// a program keeps what it returns, and clones it.
     ///
     /// # Errors
     ///
@@ -145,77 +173,120 @@ impl Cache {
         Table::open(Arc::clone(&self.shared), self.errands.clone(), name)
     }
 
-    /// Why the last rows that should be kept were not, as a sentence, if krl or the extension is
-    /// away. Meanwhile the database answers the reads.
+    /// Why no rows are kept, as a sentence, if krl or the extension is away. Meanwhile the database
+    /// answers the reads. [`Table::fault`] reports why those of one table are not.
     #[must_use]
     pub fn fault(&self) -> Option<String> {
-        self.shared.fault().clone()
+        self.shared.fault.get()
     }
 
     /// Gives back all that the process holds in krl, so that no writer waits for it, and waits until
-    /// that is done. Tables of the cache that are still there are read from the database.
+    /// that is done: for two seconds at most, if krl's server or the database does not answer.
+    /// Tables of the cache that are still there are read from the database.
     pub fn close(self) {
-        // It has ended if it does not take it.
-        let _ = self.errands.send(Errand::Leave);
-        let _ = self.loader.join();
+        // A loader that waits for the database holds nothing up.
+        self.shared.locks.close();
+        let _ = self.errands.try_send(Errand::Leave);
+        let loader = self.loader.into_inner().unwrap_or_else(PoisonError::into_inner);
+        let _ = loader.recv_timeout(LAST_LOAD);
+    }
+
+    /// A call that gives back all that the process holds in krl, and closes the cache. Other threads
+    /// may read meanwhile, and the cache may be gone. It waits for a second at most.
+    pub fn give_back(&self) -> impl Fn() + Send + Sync + 'static {
+        let shared = Arc::downgrade(&self.shared);
+        move || {
+            if let Some(shared) = shared.upgrade() {
+                shared.locks.close();
+            }
+        }
     }
 }
 
 impl Shared {
-    /// Asks the database over a connection that is free, and once again over a new one if that
-    /// fails: it may have ended, or its statements may be those of other columns.
+    /// Asks the database over a connection that is free, and once again over a new one if that has
+    /// ended, or its statements are those of other columns. What is refused or late is not asked
+    /// again.
     pub fn ask<T>(
         &self,
         ask: impl Fn(&mut Session) -> Result<T, ReadError>,
     ) -> Result<T, ReadError> {
-        let waiting = self.idle().pop().filter(|session| !session.is_closed());
-        if let Some(mut session) = waiting {
-            if let Ok(answer) = ask(&mut session) {
-                self.put_back(session);
-                return Ok(answer);
+        let end = Instant::now() + self.timeout;
+        if let Some(mut session) = pop(&self.idle) {
+            session.set_end(end);
+            let answer = ask(&mut session);
+            let fate = session.fate();
+            self.put_back(session, fate);
+            if answer.is_ok() || !is_asked_again(fate) {
+                return answer;
             }
-            self.idle().clear();
         }
-        let mut session = Session::connect(&self.connector, self.timeout)?;
-        let answer = ask(&mut session)?;
-        self.put_back(session);
-        Ok(answer)
+        self.wait_for_late(end)?;
+        let mut session = Session::connect(&self.connector, end)?;
+        let answer = ask(&mut session);
+        let fate = session.fate();
+        self.put_back(session, fate);
+        answer
     }
 
-    fn put_back(&self, session: Session) {
-        let mut idle = self.idle();
-        if idle.len() < MOST_IDLE {
-            idle.push(session);
+    /// Keeps a connection for later calls if it may be used again.
+    fn put_back(&self, session: Session, fate: Fate) {
+        match fate {
+            Fate::Usable => {
+                let mut idle = lock(&self.idle);
+                if idle.len() < MOST_IDLE {
+                    idle.push(session);
+                }
+            }
+            Fate::Outdated => {}
+            // The others were made before it.
+            Fate::Ended => lock(&self.idle).clear(),
+            Fate::Late => self.end_late(session.give_up(), Instant::now() + CANCEL),
         }
+    }
+
+    /// Has the database end the statement of a connection. If that takes longer, the connection may
+    /// be lost, and so may the others: it is kept until that is known, and they are not.
+    fn end_late(&self, mut late: Ending, by: Instant) {
+        if !late.has_ended(&self.connector, by) && Instant::now() < late.lost {
+            lock(&self.late).push(late);
+            lock(&self.idle).clear();
+        }
+    }
+
+    /// **No connection is made as long as another one waits in the database for a read that was
+    /// late**, unless that connection is lost: so a database that is slow gets no more of them than
+    /// threads read at once.
+    fn wait_for_late(&self, end: Instant) -> Result<(), ReadError> {
+        let Some(late) = pop(&self.late) else { return Ok(()) };
+        let by = end.min(late.lost);
+        self.end_late(late, by);
+        if Instant::now() < end { Ok(()) } else { Err(ReadError::late()) }
+    }
+
+    /// Closes the connections that are lost: the database ends what it did for them.
+    pub fn drop_lost(&self) {
+        let now = Instant::now();
+        lock(&self.late).retain(|late| now < late.lost);
     }
 
     /// A number that no other definition has.
     pub fn next_definition(&self) -> u64 {
         self.definitions.fetch_add(1, Ordering::Relaxed)
     }
+}
 
-    /// Whether krl or the extension is away.
-    pub fn is_away(&self) -> bool {
-        self.fault().is_some()
-    }
+/// Whether another connection may answer what one has not that ends so.
+fn is_asked_again(fate: Fate) -> bool {
+    matches!(fate, Fate::Ended | Fate::Outdated)
+}
 
-    /// Why rows are not kept, or this, if it is not known.
-    pub fn fault_or(&self, other: &str) -> String {
-        self.fault().clone().unwrap_or_else(|| other.to_string())
-    }
+fn pop<T>(list: &Mutex<Vec<T>>) -> Option<T> {
+    lock(list).pop()
+}
 
-    /// Notes why rows are not kept, or that they are.
-    pub fn note_fault(&self, fault: Option<String>) {
-        *self.fault() = fault;
-    }
-
-    fn idle(&self) -> MutexGuard<'_, Vec<Session>> {
-        self.idle.lock().unwrap_or_else(PoisonError::into_inner)
-    }
-
-    fn fault(&self) -> MutexGuard<'_, Option<String>> {
-        self.fault.lock().unwrap_or_else(PoisonError::into_inner)
-    }
+fn lock<T>(mutex: &Mutex<T>) -> MutexGuard<'_, T> {
+    mutex.lock().unwrap_or_else(PoisonError::into_inner)
 }
 
 /// Makes the folder of the lock files, unless it is there.

@@ -5,31 +5,14 @@ use crate::key::{Key, KeyValue, Stripe, Stripes};
 use crate::locks::{CLUSTER_MARK, Locks, Marks};
 use crate::memory::{Memory, Rows};
 use crate::session::{Quiet, Session};
-use crate::sql::{KeyType, Selection, TableSql};
+use crate::sql::{CACHED, KeyType, QUIET_DEFINITION, Selection, TableSql};
 use std::cell::LazyCell;
 use std::num::NonZeroU32;
 use std::sync::Arc;
+use tokio_postgres::error::SqlState;
 
 /// The encodings in which a text has the same bytes in the database as in a program.
 const ENCODINGS: [&str; 2] = ["UTF8", "SQL_ASCII"];
-
-/// Finds how a table is cached.
-const CACHED: &str = "
-    SELECT format('%I.%I', nspname, relname), mark, stripes, by_remainder,
-        current_setting('server_encoding'),
-        (SELECT array_agg(quote_ident(attname) ORDER BY attnum) FROM pg_attribute
-            WHERE attrelid = relation AND attnum > 0 AND NOT attisdropped),
-        (SELECT array_agg(quote_ident(attname) ORDER BY place) FROM
-            unnest(key_columns) WITH ORDINALITY AS part (attname, place)),
-        (SELECT array_agg(atttypid ORDER BY place) FROM
-            unnest(key_columns) WITH ORDINALITY AS part (attname, place)
-            JOIN pg_attribute USING (attname) WHERE attrelid = relation AND NOT attisdropped)
-    FROM krl.cached JOIN pg_class ON pg_class.oid = relation
-        JOIN pg_namespace ON pg_namespace.oid = relnamespace
-    WHERE relation = $1::text::regclass";
-
-/// Reports whether nobody is about to change the definition of a table.
-const QUIET_DEFINITION: &str = "SELECT krl.quiet($1, $2::text::regclass, $3, '{}')";
 
 /// What no tenure is.
 const NO_TENURE: u64 = u64::MAX;
@@ -71,7 +54,7 @@ pub(crate) struct Look<'d> {
 pub(crate) type Loaded = (Arc<Rows>, Option<Held>);
 
 impl Definition {
-    /// Finds the definition of the table of this name. Rows are kept by what is held, unless a
+    /// Finds the definition of the table of this full name. Rows are kept by what is held, unless a
     /// transaction is about to change the definition: then it has to be found again.
     pub fn find(
         session: &mut Session,
@@ -253,7 +236,7 @@ fn read(session: &Session, name: &str) -> Result<(TableSql, Stripes), ReadError>
 /// What the database reports if it lacks the extension.
 fn without_extension(error: ReadError) -> ReadError {
     match error {
-        ReadError::Database(why) if why.contains("\"krl.cached\" does not exist") => {
+        ReadError::Database { sqlstate: Some(SqlState::UNDEFINED_TABLE), .. } => {
             ReadError::NoExtension
         }
         error => error,

@@ -43,7 +43,7 @@
 //! # What is away
 //!
 //! If krl, the extension or a writer does not answer, the database answers each read, and nothing is
-//! kept: [`Cache::fault`] reports why. A call fails only if the database does. Rows in memory are
+//! kept: [`Table::fault`] reports why. A call fails only if the database does. Rows in memory are
 //! returned while this process's lease lasts, also while the database is away.
 //!
 //! # Threads
@@ -54,6 +54,7 @@
 mod cache;
 mod definition;
 mod error;
+mod fault_note;
 mod held;
 mod key;
 mod loader;

@@ -2,20 +2,25 @@
 //! database at once, and waits for nobody.
 use crate::cache::{KrlPlace, Shared};
 use crate::definition::{Definition, Holding, Wanted};
+use crate::error::ReadError;
 use crate::key::Key;
-use crate::locks::Locks;
-use crate::sql::Selection;
+use crate::locks::{IsClosed, Locks};
+use crate::sql::{SERVERS, Selection};
 use crate::table::Inner;
 use krl::ErrorKind;
 use std::collections::{HashMap, HashSet, VecDeque};
 use std::fmt::Display;
 use std::iter;
 use std::sync::Arc;
-use std::sync::mpsc::Receiver;
+use std::sync::mpsc::{Receiver, RecvTimeoutError};
 use std::time::{Duration, Instant};
 
 /// The pause before another attempt to join krl.
 const PAUSE: Duration = Duration::from_millis(500);
+
+/// How often the database is asked whether the role may still connect, and lost connections are
+/// closed.
+const CHECK: Duration = Duration::from_secs(10);
 
 /// This many rows are loaded at once. Others are, when they are missed again.
 const MOST_KEYS: usize = 4096;
@@ -40,53 +45,124 @@ pub(crate) struct Loader {
     shared: Arc<Shared>,
     place: KrlPlace,
     errands: Receiver<Errand>,
-    locks: Option<Arc<Locks>>,
     /// When krl may be joined again.
     next_join: Instant,
+    /// When the database is asked whether the role may still connect.
+    next_check: Instant,
     /// Keys of krl that were called back, the oldest first.
     called_back: VecDeque<u64>,
 }
 
-/// Why nothing is kept: krl or the extension is away.
-struct Away(String);
+/// Why rows are not kept.
+enum Fault {
+    /// Those of no table: krl or the extension is away.
+    Cache(String),
+    /// Those of this table: the database refuses them, or does not answer.
+    Table(String),
+}
 
-impl Away {
-    fn new(why: &impl Display) -> Away {
-        Away(why.to_string())
+impl Fault {
+    fn of_cache(why: &impl Display) -> Fault {
+        Fault::Cache(why.to_string())
+    }
+
+    /// What the database has reported as it was asked for a table.
+    fn of_table(why: &ReadError) -> Fault {
+        match why {
+            ReadError::NoExtension => Fault::of_cache(why),
+            _ => Fault::Table(why.to_string()),
+        }
+    }
+}
+
+impl From<IsClosed> for Fault {
+    fn from(_: IsClosed) -> Fault {
+        Fault::of_cache(&"the cache is closed")
     }
 }
 
 impl Loader {
     pub fn new(shared: Arc<Shared>, place: KrlPlace, errands: Receiver<Errand>) -> Loader {
-        let (next_join, called_back) = (Instant::now(), VecDeque::new());
-        Loader { shared, place, errands, locks: None, next_join, called_back }
+        let (now, called_back) = (Instant::now(), VecDeque::new());
+        let (next_join, next_check) = (now, now + CHECK);
+        Loader { shared, place, errands, next_join, next_check, called_back }
     }
 
     /// Works until it is to leave, or all tables are gone.
     pub fn run(mut self) {
-        while let Ok(first) = self.errands.recv() {
-            let errands: Vec<_> = iter::once(first).chain(self.errands.try_iter()).collect();
+        self.work();
+        self.shared.locks.close();
+    }
+
+    fn work(&mut self) {
+        while let Some(errands) = self.next_errands() {
             let mut missed: HashMap<*const Inner, (Arc<Inner>, HashSet<Key>)> = HashMap::new();
             for errand in errands {
-                let Errand::Load { table, keys } = errand else { return self.leave() };
+                let Errand::Load { table, keys } = errand else { return };
                 let (_, all) = missed.entry(Arc::as_ptr(&table)).or_insert((table, HashSet::new()));
                 all.extend(keys);
             }
             for (table, keys) in missed.into_values() {
                 let loaded = self.load(&table, keys);
-                self.shared.note_fault(loaded.err().map(|Away(why)| why));
+                self.note(&table, loaded);
+            }
+            self.check();
+            if self.shared.locks.get().is_err() {
+                return;
             }
         }
     }
 
-    fn leave(self) {
-        if let Some(locks) = &self.locks {
-            locks.leave();
+    /// Notes why the rows of a table are not kept, or that they are. What is refused of one table is
+    /// no fault of the others.
+    fn note(&self, table: &Inner, loaded: Result<(), Fault>) {
+        let (of_cache, of_table) = match loaded {
+            Ok(()) => (None, None),
+            Err(Fault::Cache(why)) => (Some(why), None),
+            Err(Fault::Table(why)) => (None, Some(why)),
+        };
+        self.shared.fault.set(of_cache);
+        table.fault.set(of_table);
+    }
+
+    /// Waits for errands, until the next check at most. There are none any more if nobody is left who
+    /// sends them.
+    fn next_errands(&self) -> Option<Vec<Errand>> {
+        let wait = self.next_check.saturating_duration_since(Instant::now());
+        match self.errands.recv_timeout(wait) {
+            Ok(first) => Some(iter::once(first).chain(self.errands.try_iter()).collect()),
+            Err(RecvTimeoutError::Timeout) => Some(Vec::new()),
+            Err(RecvTimeoutError::Disconnected) => None,
+        }
+    }
+
+    /// **What a role has kept that may no longer connect is given back**, whether or not a session of
+    /// it lives on. It is kept while the database is away.
+    fn check(&mut self) {
+        if Instant::now() < self.next_check {
+            return;
+        }
+        self.shared.drop_lost();
+        if matches!(self.shared.locks.get(), Ok(Some(_)))
+            && let Err(why) = self.may_connect()
+        {
+            self.shared.fault.set(Some(why));
+            self.shared.locks.leave();
+        }
+        self.next_check = Instant::now() + CHECK;
+    }
+
+    /// Whether the database lets the role connect, or is away.
+    fn may_connect(&self) -> Result<(), String> {
+        match self.shared.ask(|session| session.may_connect()) {
+            Ok(false) => Err("the role may no longer connect to the database".to_string()),
+            Err(error) if error.is_refused_connection() => Err(error.to_string()),
+            Ok(true) | Err(_) => Ok(()),
         }
     }
 
     /// Holds the stripes of these keys, and of others that were lost, and loads their rows.
-    fn load(&mut self, table: &Inner, mut keys: HashSet<Key>) -> Result<(), Away> {
+    fn load(&mut self, table: &Inner, mut keys: HashSet<Key>) -> Result<(), Fault> {
         let locks = self.locks()?;
         let definition = self.definition(table, &locks)?;
         keys.extend(self.lost(&locks, &definition));
@@ -105,38 +181,40 @@ impl Loader {
         held.map_err(|error| self.refused(error))?;
         let selection = Selection::Keys(wanted.iter().map(|wanted| wanted.key).collect());
         let load = |session: &mut _| definition.load(session, &wanted, &selection);
-        let loaded = self.shared.ask(load).map_err(|error| Away::new(&error))?;
-        table.counters.note_load(&loaded);
+        let loaded = self.shared.ask(load).map_err(|error| Fault::of_table(&error))?;
+        table.note_load(&loaded);
         Ok(())
     }
 
     /// krl's locks. It joins if it has not.
-    fn locks(&mut self) -> Result<Arc<Locks>, Away> {
-        if let Some(locks) = &self.locks {
-            return Ok(Arc::clone(locks));
+    fn locks(&mut self) -> Result<Arc<Locks>, Fault> {
+        if let Some(locks) = self.shared.locks.get()? {
+            return Ok(locks);
         }
         if Instant::now() < self.next_join {
-            return Err(Away(self.shared.fault_or("krl has not been joined yet")));
+            let why = self.shared.fault.get();
+            return Err(Fault::Cache(why.unwrap_or_else(|| "krl has not been joined yet".into())));
         }
         let joined = self.join();
         self.next_join = Instant::now() + PAUSE;
         let locks = Arc::new(joined?);
-        self.locks = Some(Arc::clone(&locks));
+        self.shared.locks.put(&locks).inspect_err(|IsClosed| locks.leave())?;
         Ok(locks)
     }
 
-    fn join(&self) -> Result<Locks, Away> {
-        let asked = self.shared.ask(|session| session.query("SELECT krl.servers()", &[]));
-        let asked = asked.map_err(|error| Away::new(&error))?;
+    fn join(&self) -> Result<Locks, Fault> {
+        self.may_connect().map_err(Fault::Cache)?;
+        let asked = self.shared.ask(|session| session.query(SERVERS, &[]));
+        let asked = asked.map_err(|error| Fault::of_cache(&error))?;
         let servers = asked.first().and_then(|row| row.try_get::<_, &str>(0).ok());
-        let servers = servers.ok_or_else(|| Away::new(&"krl.servers() returns nothing"))?;
-        let servers = servers.parse().map_err(|error| Away::new(&error))?;
-        Locks::join(servers, &self.place).map_err(|error| Away::new(&error))
+        let servers = servers.ok_or_else(|| Fault::of_cache(&"krl.servers() returns nothing"))?;
+        let servers = servers.parse().map_err(|error| Fault::of_cache(&error))?;
+        Locks::join(servers, &self.place).map_err(|error| Fault::of_cache(&error))
     }
 
     /// The definition of the table, which is found again if it may be another one: and once more if
     /// the table was cached again meanwhile, by another mark.
-    fn definition(&mut self, table: &Inner, locks: &Arc<Locks>) -> Result<Arc<Definition>, Away> {
+    fn definition(&mut self, table: &Inner, locks: &Arc<Locks>) -> Result<Arc<Definition>, Fault> {
         let mut definition = table.definition();
         if definition.is_current(locks) {
             return Ok(definition);
@@ -144,9 +222,10 @@ impl Loader {
         for _ in 0..2 {
             let of_table = definition.stripes.mark;
             let marks = locks.hold_marks(of_table).map_err(|error| self.refused(error))?;
-            let marks = marks.ok_or_else(|| Away::new(&"the extension has not set krl's mark"))?;
+            let marks =
+                marks.ok_or_else(|| Fault::of_cache(&"the extension has not set krl's mark"))?;
             let found = table.find(|| Some(Holding { locks: Arc::clone(locks), marks }));
-            definition = found.map(|it| table.set(it)).map_err(|error| Away::new(&error))?;
+            definition = found.map(|it| table.set(it)).map_err(|error| Fault::of_table(&error))?;
             if definition.stripes.mark == of_table {
                 break;
             }
@@ -156,11 +235,11 @@ impl Loader {
 
     /// krl has refused a call. It is joined again if that may help: a client stays with the store
     /// that it has seen.
-    fn refused(&mut self, error: krl::Error) -> Away {
-        if let Some(locks) = self.locks.take_if(|_| error.kind != ErrorKind::TimedOut) {
-            locks.leave();
+    fn refused(&mut self, error: krl::Error) -> Fault {
+        if error.kind != ErrorKind::TimedOut {
+            self.shared.locks.leave();
         }
-        Away::new(&error)
+        Fault::of_cache(&error)
     }
 
     /// Keys of the table whose rows were read before their stripes were called back.

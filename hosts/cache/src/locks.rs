@@ -3,14 +3,16 @@ use crate::cache::KrlPlace;
 use crate::held::MarkTenures;
 use krl::{Client, Error, JoinError, Servers, Tenure};
 use std::ops::{Range, RangeInclusive};
+use std::sync::{Arc, Mutex, MutexGuard, PoisonError};
 use std::time::Duration;
 
 /// The key of krl of the mark of all tables, which a reader holds with each stripe.
 pub(crate) const CLUSTER_MARK: u64 = 1 << 40;
 
-/// How long a client waits to join, and for a lock.
+/// How long a client waits to join, for a lock, and to leave.
 const JOIN: Duration = Duration::from_secs(5);
 const HOLD: Duration = Duration::from_secs(2);
+const LEAVE: Duration = Duration::from_secs(1);
 
 /// This many stripes that nobody asked for are held between two that somebody did, so that a
 /// request holds more. Nobody keeps rows of them, so their writers wait for nothing.
@@ -21,6 +23,20 @@ const GAP: u64 = 16;
 pub(crate) struct Locks {
     client: Client,
 }
+
+/// The locks that the loader has joined for, until the cache is closed.
+#[derive(Debug, Default)]
+pub(crate) struct JoinedLocks(Mutex<State>);
+
+#[derive(Debug, Default)]
+struct State {
+    locks: Option<Arc<Locks>>,
+    is_closed: bool,
+}
+
+/// The cache is closed.
+#[derive(Clone, Copy, Debug, PartialEq, Eq)]
+pub(crate) struct IsClosed;
 
 /// The marks of a table and of all tables, as they are held.
 #[derive(Clone, Copy, Debug)]
@@ -90,10 +106,47 @@ impl Locks {
         self.client.take_called_back()
     }
 
-    /// Gives back what is held, so that no writer waits for it.
+    /// Gives back what is held, so that no writer waits for it. A server that does not answer delays
+    /// this for a second.
     pub fn leave(&self) {
         // Otherwise the lease ends.
-        let _ = self.client.leave();
+        let _ = self.client.within(LEAVE).leave();
+    }
+}
+
+impl JoinedLocks {
+    /// Those that are joined, if there are some.
+    pub fn get(&self) -> Result<Option<Arc<Locks>>, IsClosed> {
+        let state = self.state();
+        if state.is_closed { Err(IsClosed) } else { Ok(state.locks.clone()) }
+    }
+
+    /// From now on these are joined, unless the cache was closed meanwhile.
+    pub fn put(&self, locks: &Arc<Locks>) -> Result<(), IsClosed> {
+        let mut state = self.state();
+        if state.is_closed {
+            return Err(IsClosed);
+        }
+        state.locks = Some(Arc::clone(locks));
+        Ok(())
+    }
+
+    /// Leaves those that are joined. Others may be joined after that.
+    pub fn leave(&self) {
+        let left = self.state().locks.take();
+        if let Some(locks) = left {
+            locks.leave();
+        }
+    }
+
+    /// Leaves those that are joined, and has no others join.
+    pub fn close(&self) {
+        self.state().is_closed = true;
+        self.leave();
+    }
+
+    fn state(&self) -> MutexGuard<'_, State> {
+        self.0.lock().unwrap_or_else(PoisonError::into_inner)
     }
 }
 

@@ -2,31 +2,64 @@
 use crate::error::ReadError;
 use crate::key::Stripe;
 use crate::row::{Column, Row};
-use crate::sql::{QUIET, Selection, TableSql, Values};
-use futures_util::future::join;
+use crate::sql::{
+    AS_THE_ROLE, FULL_NAME, MAY_CONNECT, QUIET, SETTINGS, Selection, TableSql, Values,
+};
+use futures_util::future::{join, select};
 use krl_postgres::{Carrier, Connector};
+use std::cell::Cell;
 use std::collections::{BTreeSet, HashMap};
+use std::convert::Infallible;
+use std::pin::pin;
 use std::sync::Arc;
-use std::time::Duration;
+use std::time::{Duration, Instant};
 use tokio::runtime::{Builder, Runtime};
+use tokio::time::{sleep, timeout_at};
+use tokio_postgres::error::{Severity, SqlState};
 use tokio_postgres::types::ToSql;
-use tokio_postgres::{Client, Error, Statement};
-
-/// Each statement has a snapshot of its own.
-const SETTINGS: &str = "
-    SET default_transaction_isolation = 'read committed';
-    SET client_min_messages = error;";
+use tokio_postgres::{CancelToken, Client, Error, Statement};
 
 /// This many statements are kept: a table has a few, and new ones when its columns change.
 const MOST_STATEMENTS: usize = 256;
+
+/// The pause before a statement is canceled once again. Of two that were sent together a cancel ends
+/// only the one at which the database works.
+const CANCEL_AGAIN: Duration = Duration::from_millis(100);
+
+/// A connection that is silent for so long after its statement was canceled has been lost.
+const LOST: Duration = Duration::from_secs(10);
 
 /// A connection. One thread at a time uses it.
 pub(crate) struct Session {
     runtime: Runtime,
     client: Client,
     prepared: HashMap<String, Prepared>,
-    _carrier: Carrier,
-    timeout: Duration,
+    carrier: Carrier,
+    /// Until when the database may answer.
+    end: Instant,
+    fate: Cell<Fate>,
+}
+
+/// What becomes of a connection after the last question.
+#[derive(Clone, Copy, Debug, PartialEq, Eq)]
+pub(crate) enum Fate {
+    /// The database has answered, or refused. Another connection would get the same.
+    Usable,
+    /// Its statements are those of other columns: a new connection has others.
+    Outdated,
+    /// It has ended, and has answered nothing.
+    Ended,
+    /// No answer came in time: the database may still be at work.
+    Late,
+}
+
+/// A connection that nobody waits for any more, and whose statement the database is to end.
+pub(crate) struct Ending {
+    runtime: Runtime,
+    token: CancelToken,
+    carrier: Carrier,
+    /// From when on it counts as lost.
+    pub lost: Instant,
 }
 
 /// A statement, and its columns without the first one.
@@ -49,21 +82,51 @@ pub(crate) struct Quiet<'s> {
 type Selected = (BTreeSet<Stripe>, Vec<(i64, Row)>);
 
 impl Session {
-    pub fn connect(connector: &Connector, timeout: Duration) -> Result<Session, ReadError> {
+    /// Connects, unless that takes longer.
+    pub fn connect(connector: &Connector, end: Instant) -> Result<Session, ReadError> {
         let runtime = Builder::new_current_thread().enable_all().build()?;
         let connecting = async {
             let (client, carrier) = connector.connect().await?;
             client.batch_execute(SETTINGS).await?;
             Ok((client, carrier))
         };
-        let connected = run(&runtime, timeout, connecting).map_err(|error| {
-            let (address, why) = (connector.address(), error.to_string());
-            let why = why.trim_start_matches("the database: ");
-            ReadError::Database(format!("cannot connect to {address}: {why}"))
-        });
-        let (client, carrier) = connected?;
-        let prepared = HashMap::new();
-        Ok(Session { runtime, client, prepared, _carrier: carrier, timeout })
+        let fate = Cell::new(Fate::Usable);
+        let connected = run(&runtime, end, &fate, connecting);
+        let (client, carrier) = connected.map_err(|error| error.of_connect(connector.address()))?;
+        Ok(Session { runtime, client, prepared: HashMap::new(), carrier, end, fate })
+    }
+
+    /// The next questions are to be answered until then.
+    pub fn set_end(&mut self, end: Instant) {
+        self.end = end;
+    }
+
+    /// What becomes of the connection after the last question.
+    pub fn fate(&self) -> Fate {
+        if self.client.is_closed() { Fate::Ended } else { self.fate.get() }
+    }
+
+    /// Gives the connection up. It ends by itself when the database has answered what was asked.
+    pub fn give_up(self) -> Ending {
+        let token = self.client.cancel_token();
+        let Session { runtime, carrier, .. } = self;
+        Ending { runtime, token, carrier, lost: Instant::now() + LOST }
+    }
+
+    /// The full name of a table that the role's own search path finds by this one.
+    pub fn full_name(&self, name: &str) -> Result<String, ReadError> {
+        self.run(async {
+            self.client.batch_execute(AS_THE_ROLE).await?;
+            let found = self.client.query_one(FULL_NAME, &[&name]).await;
+            self.client.batch_execute("ROLLBACK").await?;
+            found?.try_get(0)
+        })
+    }
+
+    /// Whether the role may log in and connect to the database now. One that is gone may not.
+    pub fn may_connect(&self) -> Result<bool, ReadError> {
+        let found = self.query(MAY_CONNECT, &[])?;
+        Ok(found.first().is_some_and(|row| row.try_get(0).unwrap_or(false)))
     }
 
     /// The rows of an answer.
@@ -72,7 +135,7 @@ impl Session {
         sql: &str,
         values: &[&(dyn ToSql + Sync)],
     ) -> Result<Vec<tokio_postgres::Row>, ReadError> {
-        run(&self.runtime, self.timeout, self.client.query(sql, values))
+        self.run(self.client.query(sql, values))
     }
 
     /// Selects rows.
@@ -84,8 +147,7 @@ impl Session {
         let (text, values) = selection.statement(sql);
         let Prepared { statement, columns } = self.prepare(text)?;
         let values = borrowed(&values);
-        let asking = self.client.query(&statement, &values);
-        rows_of(&columns, &run(&self.runtime, self.timeout, asking)?)
+        rows_of(&columns, &self.run(self.client.query(&statement, &values))?)
     }
 
     /// Asks which of these stripes are quiet, and selects rows after that. If the extension does not
@@ -114,20 +176,17 @@ impl Session {
             let (quiet, rows) = join(asking, selecting).await;
             Ok((quiet.unwrap_or_default(), rows?))
         };
-        let (quiet, rows) = run(&self.runtime, self.timeout, both)?;
-        let stripe = |row: &tokio_postgres::Row| {
-            let is_quiet = row.try_get(1).ok()?;
-            let stripe: i32 = row.try_get(0).ok()?;
-            if is_quiet { Some(Stripe(stripe.cast_unsigned())) } else { None }
-        };
-        Ok((quiet.iter().filter_map(stripe).collect(), rows_of(&columns, &rows)?))
+        let (quiet, rows) = self.run(both)?;
+        let quiet = quiet.first().and_then(|row| row.try_get::<_, Vec<i32>>(0).ok());
+        let quiet = quiet.into_iter().flatten().map(|stripe| Stripe(stripe.cast_unsigned()));
+        Ok((quiet.collect(), rows_of(&columns, &rows)?))
     }
 
     fn prepare(&mut self, sql: &str) -> Result<Prepared, ReadError> {
         if let Some(prepared) = self.prepared.get(sql) {
             return Ok(prepared.clone());
         }
-        let statement = run(&self.runtime, self.timeout, self.client.prepare(sql))?;
+        let statement = self.run(self.client.prepare(sql))?;
         let columns = statement.columns().iter().skip(1);
         let columns = columns.map(|column| Column::new(column.name(), column.type_().clone()));
         let prepared = Prepared { columns: columns.collect(), statement };
@@ -138,21 +197,57 @@ impl Session {
         Ok(prepared)
     }
 
-    /// Whether the connection has ended.
-    pub fn is_closed(&self) -> bool {
-        self.client.is_closed()
+    fn run<T>(&self, asking: impl Future<Output = Result<T, Error>>) -> Result<T, ReadError> {
+        run(&self.runtime, self.end, &self.fate, asking)
     }
 }
 
-/// Waits for an answer.
+impl Ending {
+    /// Cancels the statement again and again until it has ended in the database, and with it the
+    /// connection, or until this moment. Returns whether it has ended.
+    pub fn has_ended(&mut self, connector: &Connector, by: Instant) -> bool {
+        let Ending { runtime, token, carrier, .. } = self;
+        runtime.block_on(async {
+            let (canceling, ended) = (pin!(cancel_again(connector, token)), pin!(carrier.ended()));
+            timeout_at(by.into(), select(canceling, ended)).await.is_ok()
+        })
+    }
+}
+
+async fn cancel_again(connector: &Connector, token: &CancelToken) -> Infallible {
+    loop {
+        // What is not canceled now is later.
+        let _ = connector.cancel(token).await;
+        sleep(CANCEL_AGAIN).await;
+    }
+}
+
+/// Waits for an answer until this moment, and notes what becomes of the connection.
 fn run<T>(
     runtime: &Runtime,
-    timeout: Duration,
+    end: Instant,
+    fate: &Cell<Fate>,
     asking: impl Future<Output = Result<T, Error>>,
 ) -> Result<T, ReadError> {
-    match runtime.block_on(async { tokio::time::timeout(timeout, asking).await }) {
-        Ok(answer) => answer.map_err(|error| ReadError::of_database(&error)),
-        Err(_) => Err(ReadError::Database("no answer came in time".to_string())),
+    let answer = runtime.block_on(async { timeout_at(end.into(), asking).await });
+    let (fate_now, answer) = match answer {
+        Ok(Ok(answer)) => (Fate::Usable, Ok(answer)),
+        Ok(Err(error)) => (fate_after(&error), Err(ReadError::of_database(&error))),
+        Err(_) => (Fate::Late, Err(ReadError::late())),
+    };
+    fate.set(fate_now);
+    answer
+}
+
+/// What becomes of a connection whose question has failed so.
+fn fate_after(error: &Error) -> Fate {
+    let Some(reported) = error.as_db_error() else { return Fate::Ended };
+    match (reported.parsed_severity(), reported.code()) {
+        (Some(Severity::Fatal | Severity::Panic), _) => Fate::Ended,
+        (_, &(SqlState::FEATURE_NOT_SUPPORTED | SqlState::INVALID_SQL_STATEMENT_NAME)) => {
+            Fate::Outdated
+        }
+        _ => Fate::Usable,
     }
 }
 

@@ -1,4 +1,5 @@
-//! What PostgreSQL is asked.
+//! What PostgreSQL is asked. Each name has its schema, so that nothing depends on a search path: what
+//! others make in a schema of it would be run with the rights of the reader.
 use crate::key::{Key, KeyValue};
 use crate::memory::Rows;
 use crate::row::Row;
@@ -7,11 +8,66 @@ use std::ops::RangeInclusive;
 use std::sync::Arc;
 use tokio_postgres::types::{ToSql, Type};
 
-/// Reports which stripes are quiet. The table is found by its name: if another one has it now, that
-/// one has other stripes.
+/// Reports which stripes are quiet. They are asked for one by one only if not all of them are. The
+/// table is found by its name: if another one has it now, that one has other stripes.
 pub(crate) const QUIET: &str = "
-    SELECT stripe, krl.quiet($1, $2::text::regclass, $3, ARRAY[stripe])
-    FROM unnest($4::integer[]) AS stripe";
+    SELECT CASE WHEN krl.quiet($1, pg_catalog.to_regclass($2), $3, $4) THEN $4 ELSE ARRAY(
+        SELECT stripe FROM pg_catalog.unnest($4) AS stripe
+        WHERE krl.quiet($1, pg_catalog.to_regclass($2), $3, ARRAY[stripe])) END";
+
+/// Reports whether nobody is about to change the definition of a table.
+pub(crate) const QUIET_DEFINITION: &str =
+    "SELECT krl.quiet($1, pg_catalog.to_regclass($2), $3, '{}')";
+
+/// Whether the role of the session may log in and connect to its database, now.
+pub(crate) const MAY_CONNECT: &str = "
+    SELECT rolcanlogin AND pg_catalog.has_database_privilege(
+        pg_catalog.current_database()::pg_catalog.text, 'CONNECT')
+    FROM pg_catalog.pg_roles WHERE rolname OPERATOR(pg_catalog.=) SESSION_USER";
+
+/// Where krl's servers are.
+pub(crate) const SERVERS: &str = "SELECT krl.servers()";
+
+/// Each statement has a snapshot of its own. What the names of types and operators mean that the
+/// client of PostgreSQL asks for by itself does not depend on the role either.
+pub(crate) const SETTINGS: &str = "
+    SET default_transaction_isolation = 'read committed';
+    SET client_min_messages = error;
+    SET search_path = pg_catalog, pg_temp;";
+
+/// What follows in the transaction finds tables as the role's own search path has them.
+pub(crate) const AS_THE_ROLE: &str = "BEGIN; SET LOCAL search_path TO DEFAULT";
+
+/// The name of a table with its schema.
+pub(crate) const FULL_NAME: &str = "
+    SELECT pg_catalog.format('%I.%I', s.nspname, c.relname)
+    FROM pg_catalog.pg_class AS c
+        JOIN pg_catalog.pg_namespace AS s ON s.oid OPERATOR(pg_catalog.=) c.relnamespace
+    WHERE c.oid OPERATOR(pg_catalog.=) $1::pg_catalog.text::pg_catalog.regclass";
+
+/// Finds how a table is cached, by its full name.
+pub(crate) const CACHED: &str = "
+    SELECT pg_catalog.format('%I.%I', s.nspname, c.relname), k.mark, k.stripes, k.by_remainder,
+        pg_catalog.current_setting('server_encoding'),
+        (SELECT pg_catalog.array_agg(pg_catalog.quote_ident(a.attname::pg_catalog.text)
+                ORDER BY a.attnum)
+            FROM pg_catalog.pg_attribute AS a
+            WHERE a.attrelid OPERATOR(pg_catalog.=) c.oid
+                AND a.attnum OPERATOR(pg_catalog.>) 0 AND NOT a.attisdropped),
+        (SELECT pg_catalog.array_agg(pg_catalog.quote_ident(part.name::pg_catalog.text)
+                ORDER BY part.place)
+            FROM pg_catalog.unnest(k.key_columns) WITH ORDINALITY AS part (name, place)),
+        (SELECT pg_catalog.array_agg(a.atttypid ORDER BY part.place)
+            FROM pg_catalog.unnest(k.key_columns) WITH ORDINALITY AS part (name, place)
+                JOIN pg_catalog.pg_attribute AS a
+                    ON a.attname OPERATOR(pg_catalog.=) part.name
+            WHERE a.attrelid OPERATOR(pg_catalog.=) c.oid AND NOT a.attisdropped)
+    FROM krl.cached AS k
+        JOIN pg_catalog.pg_class AS c ON c.oid OPERATOR(pg_catalog.=) k.relation
+        JOIN pg_catalog.pg_namespace AS s ON s.oid OPERATOR(pg_catalog.=) c.relnamespace
+    WHERE c.oid OPERATOR(pg_catalog.=) pg_catalog.to_regclass($1)";
+
+const EQUALS: &str = "OPERATOR(pg_catalog.=)";
 
 /// The type of a column of a key.
 #[derive(Clone, Copy, Debug, PartialEq, Eq)]
@@ -76,8 +132,8 @@ impl KeyType {
     fn sent_as(self) -> (&'static str, &'static str) {
         match self {
             KeyType::Integer => ("bigint", "bigint"),
-            KeyType::Text => ("text", "text"),
-            KeyType::Uuid => ("text", "uuid"),
+            KeyType::Text => ("pg_catalog.text", "pg_catalog.text"),
+            KeyType::Uuid => ("pg_catalog.text", "pg_catalog.uuid"),
         }
     }
 
@@ -104,9 +160,9 @@ impl TableSql {
         let (mut arrays, mut names) = (Vec::new(), String::new());
         for (number, (column, of_type)) in (1..).zip(key.iter().zip(&types)) {
             let (sent, to) = of_type.sent_as();
-            of_one.push(format!("t.{column} = ${number}::{sent}::{to}"));
-            of_several.push(format!("t.{column} = k.k{number}::{to}"));
-            arrays.push(format!("${number}::{sent}[]"));
+            of_one.push(format!("t.{column} {EQUALS} ${number}::{sent}::{to}"));
+            of_several.push(format!("t.{column} {EQUALS} k.k{number}::{to}"));
+            arrays.push(format!("pg_catalog.unnest(${number}::{sent}[])"));
             let _ = write!(names, "k{number}, ");
         }
         let (of_one, of_several) = (of_one.join(" AND "), of_several.join(" AND "));
@@ -114,12 +170,13 @@ impl TableSql {
         TableSql {
             one: format!("SELECT 1::bigint, t.{columns} FROM {table} AS t WHERE {of_one}"),
             several: format!(
-                "SELECT k.place, t.{columns} FROM unnest({arrays}) WITH ORDINALITY AS k ({names}place)
-                 JOIN {table} AS t ON {of_several}"
+                "SELECT k.place, t.{columns} FROM ROWS FROM ({arrays}) WITH ORDINALITY
+                 AS k ({names}place) JOIN {table} AS t ON {of_several}"
             ),
             range: format!(
                 "SELECT t.{first}::bigint, t.{columns} FROM {table} AS t
-                 WHERE t.{first} BETWEEN $1::bigint AND $2::bigint ORDER BY t.{first}"
+                 WHERE t.{first} OPERATOR(pg_catalog.>=) $1::bigint
+                 AND t.{first} OPERATOR(pg_catalog.<=) $2::bigint ORDER BY t.{first}"
             ),
             table,
             key: types,
@@ -193,15 +250,56 @@ mod tests {
         assert_eq!(
             one,
             "SELECT 1::bigint, t.country, t.\"the code\", t.n FROM public.place AS t \
-             WHERE t.country = $1::text::text AND t.\"the code\" = $2::text::uuid"
+             WHERE t.country OPERATOR(pg_catalog.=) $1::pg_catalog.text::pg_catalog.text \
+             AND t.\"the code\" OPERATOR(pg_catalog.=) $2::pg_catalog.text::pg_catalog.uuid"
         );
         let several = Selection::Keys(vec![&key, &key]);
         let (several, values) = several.statement(&place);
         assert_eq!(values.len(), 2, "an array for each column");
-        assert!(
-            several.contains("unnest($1::text[], $2::text[]) WITH ORDINALITY AS k (k1, k2, place)")
-        );
-        assert!(several.ends_with("ON t.country = k.k1::text AND t.\"the code\" = k.k2::uuid"));
+        assert!(several.contains("AS k (k1, k2, place) JOIN public.place AS t ON t.country "));
+    }
+
+    /// Names of functions, types and operators in a statement that have no schema. `bigint` and such
+    /// are words of SQL, and never names in a schema.
+    fn unqualified(sql: &str) -> Vec<&str> {
+        const WORDS: [&str; 9] =
+            ["OPERATOR", "ARRAY", "FROM", "AS", "k", "part", "ELSE", "bigint", "SELECT"];
+        let is_of_name = |letter: char| letter.is_alphanumeric() || letter == '_' || letter == '.';
+        let called = sql.match_indices('(').map(|(place, _)| {
+            let before = sql[..place].trim_end();
+            before.rsplit(|letter| !is_of_name(letter)).next().unwrap()
+        });
+        let cast = sql.match_indices("::").map(|(place, _)| {
+            let after = &sql[place + 2..];
+            after.split(|letter| !is_of_name(letter)).next().unwrap()
+        });
+        let signs = sql.split("OPERATOR(").enumerate().map(|(part, text)| match part {
+            0 => text,
+            _ => text.split_once(')').unwrap().1,
+        });
+        let operator = signs.flat_map(|text| text.matches(['=', '<', '>', '+', '|', '~', '!']));
+        let words =
+            ["BETWEEN", "LIKE", "USING", " IN "].into_iter().filter(|word| sql.contains(word));
+        let names = called.chain(cast).filter(|name| !name.is_empty() && !WORDS.contains(name));
+        names.filter(|name| !name.contains('.')).chain(operator).chain(words).collect()
+    }
+
+    #[test]
+    fn each_name_that_is_sent_has_its_schema() {
+        let TableSql { one, several, range, .. } = table();
+        let own = [QUIET, QUIET_DEFINITION, MAY_CONNECT, SERVERS, FULL_NAME, CACHED];
+        for sql in own.into_iter().chain([&*one, &several, &range]) {
+            assert_eq!(unqualified(sql), [""; 0], "{sql}");
+        }
+        for (sql, found) in [
+            ("SELECT count(*) FROM krl.cached", vec!["count"]),
+            ("SELECT $1::text::regclass", vec!["text", "regclass"]),
+            ("SELECT t.n FROM t WHERE t.n = $1", vec!["="]),
+            ("SELECT 1 FROM unnest($1) AS k JOIN t USING (n)", vec!["unnest", "USING"]),
+        ] {
+            let all = unqualified(sql);
+            assert!(found.iter().all(|name| all.contains(name)), "{sql}: {all:?}");
+        }
     }
 
     #[test]

@@ -53,10 +53,10 @@ pub struct Statistics {
     /// Keys whose rows were not kept: a transaction was about to change them, or others had taken
     /// them back.
     pub unkept: u64,
-    /// Keys that were answered by the database while krl or the extension was away: they are among
-    /// the misses. [`Cache::fault`] reports why.
+    /// Keys that were answered by the database while there was a fault: they are among the misses.
+    /// [`Table::fault`] reports it.
     ///
-    /// [`Cache::fault`]: crate::Cache::fault
+    /// [`Table::fault`]: crate::Table::fault
     pub away: u64,
     /// Keys whose rows were dropped because there was no room for them.
     pub evictions: u64,

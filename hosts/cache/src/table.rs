@@ -1,7 +1,8 @@
 //! The calls by which a table is read.
 use crate::cache::Shared;
-use crate::definition::{Definition, Holding, Wanted};
+use crate::definition::{Definition, Holding, Loaded, Wanted};
 use crate::error::ReadError;
+use crate::fault_note::FaultNote;
 use crate::held::{self, Held, Missing};
 use crate::key::Key;
 use crate::loader::Errand;
@@ -25,11 +26,13 @@ pub struct Table {
 }
 
 pub(crate) struct Inner {
-    /// As the program names it.
+    /// With its schema.
     name: String,
     pub shared: Arc<Shared>,
     definition: RwLock<Arc<Definition>>,
     pub counters: Counters,
+    /// Why the rows of this table are not kept.
+    pub fault: FaultNote,
 }
 
 /// Rows in memory, and what they were held by when they were loaded.
@@ -41,9 +44,16 @@ impl Table {
         errands: SyncSender<Errand>,
         name: &str,
     ) -> Result<Table, ReadError> {
-        let definition = find(&shared, name, || None)?;
-        let (name, definition) = (name.to_string(), RwLock::new(Arc::new(definition)));
-        let inner = Inner { name, shared, definition, counters: Counters::default() };
+        let found = shared.ask(|session| {
+            let name = session.full_name(name)?;
+            let number = shared.next_definition();
+            let definition = Definition::find(session, &name, number, shared.memory, None)?;
+            Ok((name, definition))
+        });
+        let (name, definition) = found?;
+        let definition = RwLock::new(Arc::new(definition));
+        let (counters, fault) = (Counters::default(), FaultNote::default());
+        let inner = Inner { name, shared, definition, counters, fault };
         Ok(Table { inner: Arc::new(inner), errands })
     }
 
@@ -157,6 +167,14 @@ impl Table {
         }
     }
 
+    /// Why the last rows of this table that should be kept were not, as a sentence: that krl or the
+    /// extension is away, as [`Cache::fault`](crate::Cache::fault) reports it, or what the database
+    /// reports of this table. Meanwhile the database answers the reads.
+    #[must_use]
+    pub fn fault(&self) -> Option<String> {
+        self.inner.fault()
+    }
+
     /// The rows of these keys, which are those of the range if it is given. All of them are of one
     /// moment.
     fn read(
@@ -220,7 +238,7 @@ impl<'r> Read<'r> {
         let inner = &self.table.inner;
         let rows = inner.select(self.definition, &selection)?;
         inner.counters.misses.add(self.wanted.len());
-        if inner.shared.is_away() {
+        if inner.fault().is_some() {
             inner.counters.away.add(self.wanted.len());
         }
         Ok(selection.by_key(rows))
@@ -237,7 +255,7 @@ impl<'r> Read<'r> {
         let is_all = part.len() == self.wanted.len();
         let selection = if is_all { self.selection() } else { of_keys(&part) };
         let loaded = inner.shared.ask(|it| self.definition.load(it, &part, &selection))?;
-        inner.counters.note_load(&loaded);
+        inner.note_load(&loaded);
         if is_all {
             inner.counters.misses.add(part.len());
             return Ok(Some(loaded.into_iter().map(|(rows, _)| rows).collect()));
@@ -294,13 +312,27 @@ impl<'r> Read<'r> {
 }
 
 impl Inner {
+    /// Notes a question for rows that are to be kept, and that the database refuses none.
+    pub fn note_load(&self, loaded: &[Loaded]) {
+        self.counters.note_load(loaded);
+        self.fault.set(None);
+    }
+
+    fn fault(&self) -> Option<String> {
+        self.shared.fault.get().or_else(|| self.fault.get())
+    }
+
     pub fn definition(&self) -> Arc<Definition> {
         Arc::clone(&self.definition.read().unwrap_or_else(PoisonError::into_inner))
     }
 
     /// Finds the definition again. `hold` returns what rows are kept by, which is held before that.
     pub fn find(&self, hold: impl Fn() -> Option<Holding>) -> Result<Definition, ReadError> {
-        find(&self.shared, &self.name, hold)
+        let shared = &self.shared;
+        shared.ask(|session| {
+            let (number, holding) = (shared.next_definition(), hold());
+            Definition::find(session, &self.name, number, shared.memory, holding)
+        })
     }
 
     /// From now on the table is read by this definition.
@@ -313,14 +345,15 @@ impl Inner {
         found
     }
 
-    /// Asks by the definition, and once again if it is another one by now.
+    /// Asks by the definition, and once again if it is another one by now. Only what the database
+    /// reports of names and types may come from another definition.
     fn with_definition<T>(
         &self,
         ask: impl Fn(&Definition) -> Result<T, ReadError>,
     ) -> Result<T, ReadError> {
         let definition = self.definition();
         let failed = match ask(&definition) {
-            Err(failed @ ReadError::Database(_)) => failed,
+            Err(failed) if failed.is_of_names() => failed,
             asked => return asked,
         };
         match self.find(|| None) {
@@ -336,17 +369,6 @@ impl Inner {
     ) -> Result<Vec<(i64, Row)>, ReadError> {
         self.shared.ask(|session| session.select(&definition.sql, selection))
     }
-}
-
-fn find(
-    shared: &Shared,
-    name: &str,
-    hold: impl Fn() -> Option<Holding>,
-) -> Result<Definition, ReadError> {
-    shared.ask(|session| {
-        let (number, holding) = (shared.next_definition(), hold());
-        Definition::find(session, name, number, shared.memory, holding)
-    })
 }
 
 fn of_keys<'k>(wanted: &[Wanted<'k>]) -> Selection<'k> {

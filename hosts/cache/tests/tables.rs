@@ -5,8 +5,11 @@ mod site;
 
 use krl_cache::{Cache, Key, ReadError, Row, Table};
 use krl_testing::database::Database;
-use site::{CLUSTER_MARK, ITEM_MARK, Site, from_memory, keys_of_item, name, name_of, wait_until};
+use site::{
+    CLUSTER_MARK, ITEM_MARK, LONG, Site, from_memory, keys_of_item, name, name_of, wait_until,
+};
 use std::thread;
+use std::time::{Duration, Instant};
 
 const UUID: [u8; 16] = [0xa0; 16];
 const UUID_TEXT: &str = "a0a0a0a0-a0a0-a0a0-a0a0-a0a0a0a0a0a0";
@@ -39,6 +42,29 @@ fn a_row_is_read_from_memory_until_it_is_taken_back() {
     assert_eq!(name_of(&items, 51), None);
     cache.close();
     assert_eq!(name_of(&items, 3).unwrap(), "lamp", "it is read from the database now");
+}
+
+#[test]
+fn a_cache_is_closed_though_its_loader_waits_for_the_database() {
+    const TIMEOUT: Duration = Duration::from_secs(8);
+    let Some(site) = Site::start() else { return };
+    let cache = site.builder().timeout(TIMEOUT).open().unwrap();
+    let items = cache.table("item").unwrap();
+    from_memory(&items, |items| items.get(3).unwrap());
+    let other = site.database.connect();
+    other.run("BEGIN; LOCK TABLE item");
+    thread::scope(|scope| {
+        // Both the read and the loader wait for the table.
+        let waiting = scope.spawn(|| items.get(4));
+        site.database.wait_for_waiting(2);
+        let begun = Instant::now();
+        cache.close();
+        wait_until("it has left", || site.server.status().clients.len() == 1);
+        let took = begun.elapsed();
+        assert!(took < TIMEOUT / 2, "{took:?}");
+        other.run("COMMIT");
+        assert_eq!(name(&waiting.join().unwrap().unwrap().unwrap()), "item 4");
+    });
 }
 
 #[test]
@@ -216,7 +242,7 @@ fn a_changed_definition_is_found() {
     assert_eq!(name_of(&items, 3).unwrap(), "of another table");
     wait_until("the loader reports why", || {
         assert_eq!(name_of(&items, 3).unwrap(), "of another table");
-        cache.fault().is_some_and(|fault| fault.contains("the table item is not cached"))
+        items.fault().is_some_and(|fault| fault.contains("the table public.item is not cached"))
     });
     let kept = items.statistics().hits;
     site.sql.run("UPDATE item SET name = 'changed'");
@@ -291,6 +317,33 @@ fn the_database_answers_while_krl_or_the_extension_is_away() {
 }
 
 #[test]
+fn what_the_database_refuses_of_one_table_is_no_fault_of_the_others() {
+    let Some(site) = Site::start() else { return };
+    let cache = site.cache_of_role("app", LONG);
+    site.sql.run(
+        "CREATE TABLE secret (id bigint PRIMARY KEY);
+         INSERT INTO krl.cached VALUES ('secret', '{id}', 119, 16, true);",
+    );
+    let (items, secrets) = (cache.table("item").unwrap(), cache.table("secret").unwrap());
+    from_memory(&items, |items| items.get(3).unwrap());
+    wait_until("the loader is refused too", || {
+        assert!(secrets.get(3).is_err());
+        secrets.fault().is_some_and(|fault| fault.contains("permission denied for table secret"))
+    });
+    for key in 0..50 {
+        secrets.get(key).unwrap_err();
+        items.get(100 + key).unwrap();
+        assert_eq!((cache.fault(), items.fault()), (None, None));
+        assert!(secrets.fault().is_some());
+    }
+    assert_eq!(items.statistics().away, 0);
+    site.sql.run("GRANT SELECT ON secret TO app");
+    from_memory(&secrets, |secrets| secrets.get(3).unwrap());
+    wait_until("there is no fault", || secrets.fault().is_none());
+    cache.close();
+}
+
+#[test]
 fn connections_that_end_are_made_again() {
     let Some(mut site) = Site::start() else { return };
     let cache = site.cache();
@@ -305,7 +358,7 @@ fn connections_that_end_are_made_again() {
     site.database.stop();
     assert_eq!(name_of(&items, 5).unwrap(), "item 5", "from memory, while the database is away");
     let failed = items.get(6).unwrap_err();
-    assert!(matches!(failed, ReadError::Database(_)), "{failed}");
+    assert!(matches!(failed, ReadError::Database { sqlstate: None, .. }), "{failed}");
     assert!(failed.to_string().starts_with("the database: cannot connect to "), "{failed}");
     site.database.start_again();
     wait_until("the database answers", || items.get(6).is_ok());
@@ -363,9 +416,13 @@ fn what_cannot_be_read_is_refused_with_a_sentence() {
     );
     let cache = site.cache();
     let refused = |table: &str| cache.table(table).unwrap_err().to_string();
-    assert!(refused("plain").starts_with("the table plain is not cached: call SELECT krl.cache"));
+    assert!(
+        refused("plain").starts_with("the table public.plain is not cached: call SELECT krl.cache")
+    );
     assert!(refused("missing").starts_with("the database: relation \"missing\" does not exist"));
-    assert!(refused("renamed").starts_with("the key of renamed has changed since it was cached"));
+    assert!(
+        refused("renamed").starts_with("the key of public.renamed has changed since it was cached")
+    );
     let (items, named) = (cache.table("item").unwrap(), cache.table("named").unwrap());
     let refused = |error: ReadError| error.to_string();
     let expected = "the key lamp is not one of public.item: expected an integer";

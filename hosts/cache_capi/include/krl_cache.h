@@ -33,9 +33,10 @@
  * it: no other call may use it during that call or after it. Rows are filled, shared and freed by one thread at a time,
  * and looked at by any number of threads while none of these calls is made. Which thread makes a call never matters.
  *
- * Waiting. The calls whose names begin with `krlcache_cached`, those of rows, `krlcache_fault` and
- * `krlcache_statistics_of` wait for nobody. `krlcache_close` waits until what the process holds is given back, and the
- * others for the database, at most for the option `timeout_ms` and once again for a new connection.
+ * Waiting. The calls whose names begin with `krlcache_cached`, those of rows, `krlcache_fault`, `krlcache_table_fault`
+ * and `krlcache_statistics_of` wait for nobody. `krlcache_close` waits until what the process holds is given back, for
+ * two seconds at most, and the others for the database: at most for the option `timeout_ms`, and for a second more
+ * until the database has ended a statement that is late.
  *
  * Misuse. A null pointer where none may be, a handle that was freed, and text that is not UTF-8 return KRLCACHE_MISUSE.
  * A freed handle is detected as long as fewer than 1,000 handles of its kind have been freed since. No call unwinds
@@ -45,6 +46,10 @@
  * KRLCACHE_FORKED, since nothing is taken back from the child's copy of the rows, and freeing it there leaves the
  * parent's as it is. Rows that were read before stay. The child may open a cache of its own. The library starts no
  * process and installs no signal handler, and once loaded, it stays until the process ends.
+ *
+ * The end. A process that calls `exit`, or returns from `main`, gives back all that its caches hold, and waits at most
+ * a second for that. `_exit`, a signal and Go's `os.Exit` end a process without that. Then commits wait for its rows
+ * until krl's server evicts it: at a Unix socket at once, otherwise when its lease has ended.
  */
 #ifndef KRL_CACHE_H
 #define KRL_CACHE_H
@@ -124,7 +129,7 @@ typedef enum krlcache_code {
     KRLCACHE_BAD_COLUMN = 84,
     /* The system refused the folder of the lock files, a thread or a connection. */
     KRLCACHE_SYSTEM = 85,
-    /* krl or the extension is away. Only `krlcache_fault` returns it. */
+    /* Rows are not kept. Only `krlcache_fault` and `krlcache_table_fault` return it. */
     KRLCACHE_AWAY = 86
 } krlcache_code;
 
@@ -163,11 +168,15 @@ typedef struct krlcache_error {
     uint32_t code;
     /* In English, in UTF-8, ended by a zero. */
     char sentence[KRLCACHE_MAX_SENTENCE_BYTES];
+    /* With KRLCACHE_DATABASE the code that the database reported, such as "42501", ended by a zero. It is empty if the
+     * database was not reached or did not answer in time, and with every other code. */
+    char sqlstate[6];
 } krlcache_error;
 
 /* How a cache is opened. A pointer may be null and a number 0 where a default is named. Later versions append members,
  * so a caller sets `size` to the size of this struct and the rest to zero: `krlcache_options options = {.size = sizeof
- * options}`. The texts are read by `krlcache_open` only. */
+ * options}`. A size that is not that of a released version is KRLCACHE_MISUSE. The texts are read by `krlcache_open`
+ * only. */
 typedef struct krlcache_options {
     size_t size;
     /* Where the database is, without a password: "postgres://shop@127.0.0.1:5432/shop". A host on another machine takes
@@ -208,7 +217,7 @@ typedef struct krlcache_statistics {
     uint64_t loads;
     uint64_t kept;
     uint64_t unkept;
-    /* Misses while krl or the extension was away: `krlcache_fault` reports why. */
+    /* Misses while there was a fault: `krlcache_table_fault` reports it. */
     uint64_t away;
     /* Keys whose rows were dropped because there was no room for them. */
     uint64_t evictions;
@@ -231,25 +240,33 @@ const char *krlcache_code_name(uint32_t code);
 KRLCACHE_NODISCARD uint32_t krlcache_open(const krlcache_options *options, krlcache_cache **cache,
                                           krlcache_error *error);
 
-/* Gives back all that the process holds in krl, so that no writer waits for it, waits until that is done, and frees the
- * cache. Tables that are still open are read from the database. A null pointer and a freed cache change nothing. */
+/* Gives back all that the process holds in krl, so that no writer waits for it, waits until that is done, for two
+ * seconds at most, and frees the cache. Tables that are still open are read from the database. A null pointer and a
+ * freed cache change nothing. */
 void krlcache_close(krlcache_cache *cache);
 
-/* Why rows are not kept at present, while the database answers all reads: KRLCACHE_OK if nothing is known to be away,
- * otherwise KRLCACHE_AWAY with a sentence. Errors: KRLCACHE_MISUSE, KRLCACHE_FORKED. */
+/* Why the rows of no table are kept at present, while the database answers all reads: KRLCACHE_OK if krl and the
+ * extension are not known to be away, otherwise KRLCACHE_AWAY with a sentence. Errors: KRLCACHE_MISUSE,
+ * KRLCACHE_FORKED. */
 KRLCACHE_NODISCARD uint32_t krlcache_fault(krlcache_cache *cache, krlcache_error *error);
 
 /* Tables. */
 
-/* Opens a table by its name in SQL, which may have a schema: one that is not in lower case stands in quotes. Each call
- * begins with empty memory: a process opens a table once. `krlcache_table_free` frees it, before its cache or after it.
- * Errors: KRLCACHE_NOT_CACHED, KRLCACHE_NO_EXTENSION, KRLCACHE_DATABASE; KRLCACHE_BAD_KEY if the columns of the key
- * have changed since the table was cached. Then `table` is null. */
+/* Opens a table by its name in SQL: one that is not in lower case stands in quotes. One without a schema is looked up
+ * by the role's search path, once. Each call begins with empty memory: a process opens a table once.
+ * `krlcache_table_free` frees it, before its cache or after it. Errors: KRLCACHE_NOT_CACHED, KRLCACHE_NO_EXTENSION,
+ * KRLCACHE_DATABASE; KRLCACHE_BAD_KEY if the columns of the key have changed since the table was cached. Then `table`
+ * is null. */
 KRLCACHE_NODISCARD uint32_t krlcache_table_open(krlcache_cache *cache, const char *name, krlcache_table **table,
                                                 krlcache_error *error);
 
 /* Frees a table and what is kept of it. A null pointer and a freed table change nothing. */
 void krlcache_table_free(krlcache_table *table);
+
+/* Why the rows of a table are not kept at present: KRLCACHE_OK if nothing is known, otherwise KRLCACHE_AWAY with the
+ * sentence of `krlcache_fault`, or with what the database reports of this table, such as a missing right. Errors:
+ * KRLCACHE_MISUSE, KRLCACHE_FORKED. */
+KRLCACHE_NODISCARD uint32_t krlcache_table_fault(krlcache_table *table, krlcache_error *error);
 
 /* Writes what was done for a table. Errors: KRLCACHE_MISUSE, KRLCACHE_FORKED. */
 KRLCACHE_NODISCARD uint32_t krlcache_statistics_of(krlcache_table *table, krlcache_statistics *statistics,

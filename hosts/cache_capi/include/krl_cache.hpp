@@ -23,6 +23,7 @@
 
 #include "krl_cache.h"
 
+#include <algorithm>
 #include <array>
 #include <chrono>
 #include <cstddef>
@@ -41,17 +42,22 @@
 
 namespace krlcache {
 
-/* What a call failed with: `what` is a sentence for people. */
+/* What a call failed with: `what` is a sentence for people, and `sqlstate` the code that the database reported, if it
+ * did. */
 class error : public std::runtime_error {
   public:
     explicit error(const krlcache_error &failed)
-        : std::runtime_error(failed.sentence), code_(static_cast<krlcache_code>(failed.code)) {}
+        : std::runtime_error(failed.sentence), code_(static_cast<krlcache_code>(failed.code)) {
+        std::copy(std::begin(failed.sqlstate), std::end(failed.sqlstate), sqlstate_.begin());
+    }
     error(krlcache_code code, const char *sentence) : std::runtime_error(sentence), code_(code) {}
 
     krlcache_code code() const noexcept { return code_; }
+    std::string_view sqlstate() const noexcept { return sqlstate_.data(); }
 
   private:
     krlcache_code code_;
+    std::array<char, sizeof krlcache_error::sqlstate> sqlstate_ = {};
 };
 
 /* The bytes of a uuid, in the order in which they are written. */
@@ -97,6 +103,16 @@ inline std::uint32_t answered(std::uint32_t code, const krlcache_error &failed) 
     if (code > KRLCACHE_ANSWERS)
         throw error(failed);
     return code;
+}
+
+/* The sentence of a call that reports why rows are not kept; nothing if they are. */
+template <class Call, class Handle> std::optional<std::string> fault_of(Call call, Handle *handle) {
+    krlcache_error away;
+    const std::uint32_t code = call(handle, &away);
+    if (code == KRLCACHE_AWAY)
+        return away.sentence;
+    answered(code, away);
+    return std::nullopt;
 }
 
 /* Frees what a call has made: a deleter for `std::unique_ptr`. */
@@ -310,6 +326,11 @@ class table {
         return call(krlcache_cached_range, into, first, last) == KRLCACHE_OK;
     }
 
+    /* Why the rows of this table are not kept at present; nothing if they are. */
+    [[nodiscard]] std::optional<std::string> fault() const {
+        return detail::fault_of(krlcache_table_fault, table_.get());
+    }
+
     /* What was done for the table since it was opened. */
     [[nodiscard]] krlcache_statistics statistics() const {
         krlcache_statistics counted = {};
@@ -360,15 +381,8 @@ class cache {
         detail::answered(krlcache_table_open(cache_.get(), name.c_str(), &opened, &failed), failed);
         return krlcache::table(opened);
     }
-    /* Why rows are not kept at present, while the database answers all reads; nothing if they are. */
-    [[nodiscard]] std::optional<std::string> fault() const {
-        krlcache_error away;
-        const std::uint32_t code = krlcache_fault(cache_.get(), &away);
-        if (code == KRLCACHE_AWAY)
-            return away.sentence;
-        detail::answered(code, away);
-        return std::nullopt;
-    }
+    /* Why the rows of no table are kept at present, while the database answers all reads; nothing if they are. */
+    [[nodiscard]] std::optional<std::string> fault() const { return detail::fault_of(krlcache_fault, cache_.get()); }
     /* Gives back all that the process holds now. Tables are read from the database from then on. */
     void close() noexcept { cache_.reset(); }
 

@@ -12,15 +12,28 @@ use crate::code::Code;
 use crate::fault::{ErrorRoom, Fault, answer};
 use crate::options::Options;
 use crate::statistics::Statistics;
-use krl_ffi::{Handle, Kind, fork, options_at, put_out, quiet, text};
+use krl_ffi::{AtExit, Handle, Kind, fork, options_at, put_out, quiet, text};
 use std::ffi::c_char;
 use std::ptr;
 
-type Cache = Handle<krl_cache::Cache>;
+type Cache = Handle<Opened>;
 type Table = Handle<krl_cache::Table>;
 
-static CACHES: Kind<krl_cache::Cache> = Kind::new("cache");
+static CACHES: Kind<Opened> = Kind::new("cache");
 static TABLES: Kind<krl_cache::Table> = Kind::new("table");
+
+/// A cache, which gives back what it holds if the process ends.
+#[derive(Debug)]
+pub struct Opened {
+    cache: krl_cache::Cache,
+    _at_exit: AtExit,
+}
+
+impl Opened {
+    fn new(cache: krl_cache::Cache) -> Opened {
+        Opened { _at_exit: AtExit::call(cache.give_back()), cache }
+    }
+}
 
 /// A table of this process.
 ///
@@ -59,7 +72,7 @@ pub unsafe extern "C" fn krlcache_open(
         // SAFETY: as above.
         let builder = unsafe { options.builder() }?;
         fork::watch()?;
-        let opened = CACHES.open(builder.open()?)?;
+        let opened = CACHES.open(Opened::new(builder.open()?))?;
         // SAFETY: as above.
         unsafe { put_out("a cache", cache, opened) }?;
         Ok(Code::Ok)
@@ -71,18 +84,22 @@ pub unsafe extern "C" fn krlcache_open(
 #[unsafe(no_mangle)]
 pub unsafe extern "C" fn krlcache_close(cache: *mut Cache) {
     // SAFETY: the caller makes no other call with the cache.
-    quiet(|| unsafe { CACHES.free(cache, krl_cache::Cache::close) });
+    quiet(|| unsafe { CACHES.free(cache, |opened| opened.cache.close()) });
 }
 
 #[unsafe(no_mangle)]
 pub unsafe extern "C" fn krlcache_fault(cache: *mut Cache, error: *mut ErrorRoom) -> u32 {
     let fault = || {
         // SAFETY: the caller frees the cache after this call.
-        let cache = unsafe { CACHES.own_value(cache) }?;
-        cache.fault().map_or(Ok(Code::Ok), |why| Err(Fault::new(Code::Away, why)))
+        let cache = &unsafe { CACHES.own_value(cache) }?.cache;
+        unless_away(cache.fault())
     };
     // SAFETY: the caller vouches for the room of the error.
     unsafe { answer(error, fault) }
+}
+
+fn unless_away(fault: Option<String>) -> Result<Code, Fault> {
+    fault.map_or(Ok(Code::Ok), |why| Err(Fault::new(Code::Away, why)))
 }
 
 #[unsafe(no_mangle)]
@@ -96,7 +113,7 @@ pub unsafe extern "C" fn krlcache_table_open(
         // SAFETY: the caller vouches for the room.
         unsafe { put_out("a table", table, ptr::null_mut()) }?;
         // SAFETY: the caller frees the cache after this call, and vouches for the name.
-        let (cache, name) = unsafe { (CACHES.own_value(cache)?, text("name", name)?) };
+        let (cache, name) = unsafe { (&CACHES.own_value(cache)?.cache, text("name", name)?) };
         let name = name.ok_or_else(|| Fault::misuse("the name of the table is null"))?;
         let opened = TABLES.open(cache.table(name)?)?;
         // SAFETY: as above.
@@ -111,6 +128,14 @@ pub unsafe extern "C" fn krlcache_table_open(
 pub unsafe extern "C" fn krlcache_table_free(table: *mut Table) {
     // SAFETY: the caller makes no other call with the table.
     quiet(|| unsafe { TABLES.free(table, drop) });
+}
+
+#[unsafe(no_mangle)]
+pub unsafe extern "C" fn krlcache_table_fault(table: *mut Table, error: *mut ErrorRoom) -> u32 {
+    // SAFETY: the caller frees the table after this call.
+    let fault = || unless_away(unsafe { own(table) }?.fault());
+    // SAFETY: the caller vouches for the room of the error.
+    unsafe { answer(error, fault) }
 }
 
 #[unsafe(no_mangle)]

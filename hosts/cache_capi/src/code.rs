@@ -26,7 +26,7 @@ krl_ffi::codes! {
 impl From<&ReadError> for Code {
     fn from(error: &ReadError) -> Code {
         match error {
-            ReadError::Database(_) => Code::Database,
+            ReadError::Database { .. } => Code::Database,
             ReadError::NotCached(_) => Code::NotCached,
             ReadError::NoExtension => Code::NoExtension,
             ReadError::Key(_) => Code::BadKey,

@@ -7,11 +7,16 @@ use std::borrow::Cow;
 /// The most bytes of a sentence, with the zero that ends it.
 pub const MAX_SENTENCE_BYTES: usize = 500;
 
+/// The bytes of a code of the database, with the zero that ends it.
+const SQLSTATE_BYTES: usize = 6;
+
 /// Why a call failed.
 #[derive(Debug)]
 pub struct Fault {
     pub code: Code,
     sentence: Cow<'static, str>,
+    /// What the database reported, if it did.
+    sqlstate: [u8; SQLSTATE_BYTES],
 }
 
 /// A `krlcache_error` of the header.
@@ -21,11 +26,12 @@ pub struct Fault {
 pub struct ErrorRoom {
     pub code: u32,
     pub sentence: [u8; MAX_SENTENCE_BYTES],
+    pub sqlstate: [u8; SQLSTATE_BYTES],
 }
 
 impl Fault {
     pub fn new(code: Code, sentence: impl Into<Cow<'static, str>>) -> Fault {
-        Fault { code, sentence: sentence.into() }
+        Fault { code, sentence: sentence.into(), sqlstate: [0; SQLSTATE_BYTES] }
     }
 
     pub fn misuse(sentence: impl Into<Cow<'static, str>>) -> Fault {
@@ -46,7 +52,8 @@ impl krl_ffi::Fault for Fault {
     }
 
     fn written(&self) -> ErrorRoom {
-        ErrorRoom { code: self.code.into(), sentence: sentence(&self.sentence) }
+        let Fault { code, sentence: text, sqlstate } = self;
+        ErrorRoom { code: (*code).into(), sentence: sentence(text), sqlstate: *sqlstate }
     }
 }
 
@@ -63,13 +70,14 @@ impl From<Misuse> for Fault {
 
 impl From<ReadError> for Fault {
     fn from(error: ReadError) -> Fault {
-        let sentence = match &error {
+        let text = match &error {
             ReadError::SeveralRows(key) => {
                 format!("the key {key} has several rows: krlcache_get_all reads all of them")
             }
             error => error.to_string(),
         };
-        Fault::new(Code::from(&error), sentence)
+        let sqlstate = sentence(error.sqlstate().unwrap_or_default());
+        Fault { sqlstate, ..Fault::new(Code::from(&error), text) }
     }
 }
 

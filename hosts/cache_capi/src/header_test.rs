@@ -59,7 +59,7 @@ fn program(header: &str) -> String {
     let numbers: Vec<_> = codes.chain(numbers).collect();
     let mut program = header::program(header, &exports(), &numbers);
     layout!(program, GivenValue, "krlcache_value", kind integer bytes length);
-    layout!(program, ErrorRoom, "krlcache_error", code sentence);
+    layout!(program, ErrorRoom, "krlcache_error", code sentence sqlstate);
     layout!(program, Statistics, "krlcache_statistics", hits misses loads kept unkept away evictions
         keys bytes);
     layout!(program, Options, "krlcache_options", size database user password lock_folder

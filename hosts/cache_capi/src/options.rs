@@ -3,7 +3,7 @@ use crate::code::Code;
 use crate::fault::Fault;
 use krl::{TableName, TlsConfig};
 use krl_cache::{Cache, CacheBuilder, PostgresAddress};
-use krl_ffi::text;
+use krl_ffi::{Versioned, text};
 use std::error::Error;
 use std::ffi::c_char;
 use std::fmt::Display;
@@ -31,6 +31,10 @@ pub struct Options {
     pub tls_certificate: *const c_char,
     pub tls_key: *const c_char,
     pub tls_table: *const c_char,
+}
+
+impl Versioned for Options {
+    const EARLIER: &'static [usize] = &[];
 }
 
 impl Options {

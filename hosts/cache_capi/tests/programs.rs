@@ -33,12 +33,19 @@ fn runs(name: &str, compiler: &str, source: &str, words: &[&str]) {
     let (asked, answers) = (program.stdout.take().unwrap(), program.stdin.take().unwrap());
     site.serve(BufReader::new(asked), answers);
     assert!(program.wait().unwrap().success(), "the program has printed why");
+    // It has given everything back: the server has no leases, and would wait for it.
+    site.take_back(site::keys_of_item(0..16));
     fs::remove_dir_all(folder).unwrap();
 }
 
 #[test]
 fn each_call_answers_as_the_header_states() {
     runs("calls", "cc", "tests/programs/calls.c", &[]);
+}
+
+#[test]
+fn a_process_that_returns_from_main_gives_back() {
+    runs("exits", "cc", "tests/programs/exits.c", &[]);
 }
 
 #[test]

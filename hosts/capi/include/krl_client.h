@@ -21,9 +21,9 @@
  * Ranges. A range has the keys from `lo` on below `hi`. `lo` is at most `hi`, and `hi` at most KRLC_TOP; otherwise the
  * call returns KRLC_BAD_RANGE. Keys are below KRLC_END.
  *
- * Threads. Calls that take a client or a pin may be made by any threads at the same time, except the call that frees
- * it: no other call may use it during that call or after it. Calls that take rows or an error are made by one thread
- * at a time for each of these. Which thread makes a call never matters.
+ * Threads. Calls that take a client, a pin or a reader may be made by any threads at the same time, except the call
+ * that frees it: no other call may use it during that call or after it. Calls that take rows or an error are made by
+ * one thread at a time for each of these. Which thread makes a call never matters.
  *
  * Waiting. A call with a `timeout_ms` waits for an answer for at most that many milliseconds, and at most a year. 0
  * means the client's timeout. `krlc_join`, `krlc_evict` and `krlc_free` wait as they describe. Every other call waits
@@ -38,6 +38,11 @@
  * has the parent's lock file open: if the parent is killed, its number is not free again before the child has ended or
  * has called `exec`. The library starts no process, installs no signal handler, and its writes raise no SIGPIPE. Once
  * loaded, it stays until the process ends.
+ *
+ * The end. A process that calls `exit`, or returns from `main`, leaves with each of its clients, and waits at most a
+ * second for that. From then on their calls return KRLC_LEFT, also in functions that were given to `atexit` before the
+ * first client joined. `_exit`, a signal and Go's `os.Exit` end a process without that. Then a server at a Unix socket
+ * evicts its clients at once, and another server when their leases have ended.
  */
 #ifndef KRL_CLIENT_H
 #define KRL_CLIENT_H
@@ -258,7 +263,8 @@ typedef struct krlc_error {
 
 /* How a client joins. A pointer may be null and a number 0 where a default is named. Later versions append members, so
  * a caller sets `size` to the size of this struct and the rest to zero: `krlc_options options = {.size = sizeof
- * options, .servers = "127.0.0.1:7400"}`. The texts are read by `krlc_join` only. */
+ * options, .servers = "127.0.0.1:7400"}`. A size that is not that of a released version is KRLC_MISUSE. The texts are
+ * read by `krlc_join` only. */
 typedef struct krlc_options {
     size_t size;
     /* The addresses of the servers over one store, with commas between them: "127.0.0.1:7400",
@@ -323,10 +329,11 @@ bool krlc_is_unknown_outcome(uint32_t code);
 
 /* Clients. */
 
-/* Joins, and waits until the server serves the client. The client is freed by `krlc_free`. Errors: KRLC_MISUSE,
- * KRLC_BAD_NUMBER, KRLC_BAD_ADDRESS, KRLC_BAD_MAP, KRLC_BAD_TLS, KRLC_BAD_RANGE, KRLC_LOCK_FILE,
- * KRLC_LOCK_FILE_TAKEN, KRLC_NO_THREAD, KRLC_TIMED_OUT, KRLC_NOTHING_LISTENS, KRLC_UNSERVED, KRLC_TURNED_AWAY,
- * KRLC_OTHER_SHARD, KRLC_OUT_OF_MEMORY. Then `client` is null. */
+/* Joins, and waits until the server serves the client. The client is freed by `krlc_free`. The shards of a map may be
+ * changing: it waits until the timeout for a server that is of another shard or is not there, and continues by a next
+ * map in its file. Errors: KRLC_MISUSE, KRLC_BAD_NUMBER, KRLC_BAD_ADDRESS, KRLC_BAD_MAP, KRLC_BAD_TLS, KRLC_BAD_RANGE,
+ * KRLC_LOCK_FILE, KRLC_LOCK_FILE_TAKEN, KRLC_NO_THREAD, KRLC_TIMED_OUT, KRLC_NOTHING_LISTENS, KRLC_UNSERVED,
+ * KRLC_TURNED_AWAY, KRLC_OTHER_SHARD, KRLC_OUT_OF_MEMORY. Then `client` is null. */
 KRLC_NODISCARD uint32_t krlc_join(const krlc_options *options, krlc_client **client, krlc_error *error);
 
 /* Ends the client of a number for good, if its process is gone and will not come back: an operator's call. It joins by
@@ -514,10 +521,10 @@ KRLC_NODISCARD uint32_t krlc_pin_write_all(krlc_pin *pin, krlc_write *writes, si
 void krlc_pin_free(krlc_pin *pin);
 
 /* Readers. A reader is not a client: it has no number, no lock file and no lease, and keeps nothing. Each call asks the
- * server, and waits for the timeout of the reader's options at most. A reader follows the file `map` of its options: if
- * a server does not answer or is of another shard, it asks by the next map that it finds there. A server takes 1,024
- * readers next to its clients. Threads that call one reader take turns. A reader belongs to its process, as a client
- * does. */
+ * server, and waits for the timeout of the reader's options at most. A reader follows the file `map` of its options,
+ * also while it connects: if a server does not answer or is of another shard, it asks by the next map that it finds
+ * there. A server takes 1,024 readers next to its clients. Threads that call one reader take turns. A reader belongs to
+ * its process, as a client does. */
 
 /* Connects a reader by `servers` or `map`, `timeout_ms` and the options for TLS; with a map to the shards of the keys
  * from `lo` on below `hi`. It is freed by `krlc_reader_free`. Errors: KRLC_MISUSE, also if an option is set that only

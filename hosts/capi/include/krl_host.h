@@ -49,7 +49,7 @@ extern "C" {
 typedef struct krlh_client krlh_client;
 
 /* How a client is opened. A caller sets `size` to the size of this struct, and the members that it does not use to
- * zero. */
+ * zero. A size that is not that of a released version is KRLC_MISUSE. */
 typedef struct krlh_options {
     size_t size;
     /* The lock file of this number on this machine, which is made if there is none. */

@@ -4,6 +4,7 @@ use crate::fault::Fault;
 use crate::pin::OwnPin;
 use crate::tls::Tls;
 use krl::Client;
+use krl_ffi::AtExit;
 use std::io::{self, ErrorKind};
 use std::path::{Path, PathBuf};
 use std::sync::Arc;
@@ -19,11 +20,18 @@ pub struct Joined {
     tls: Tls,
     /// The file of its map.
     map_file: Option<PathBuf>,
+    _at_exit: AtExit,
 }
 
 impl Joined {
     pub fn new(client: Client, tls: Tls, map_file: Option<&Path>) -> Joined {
-        Joined { client: Arc::new(client), tls, map_file: map_file.map(Path::to_path_buf) }
+        let client = Arc::new(client);
+        let open = Arc::downgrade(&client);
+        let at_exit = AtExit::call(move || {
+            let _ = open.upgrade().map(|client| client.leave());
+        });
+        let map_file = map_file.map(Path::to_path_buf);
+        Joined { client, tls, map_file, _at_exit: at_exit }
     }
 
     pub fn client(&self) -> &Client {

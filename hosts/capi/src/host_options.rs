@@ -3,7 +3,7 @@ use crate::code::Code;
 use crate::fault::Fault;
 use krl::ShardBounds;
 use krl::sans_io::Begin;
-use krl_ffi::text;
+use krl_ffi::{Versioned, text};
 use std::ffi::c_char;
 use std::path::Path;
 
@@ -21,6 +21,10 @@ pub struct HostOptions {
     pub number: u32,
     pub servers: u32,
     pub seed: u64,
+}
+
+impl Versioned for HostOptions {
+    const EARLIER: &'static [usize] = &[];
 }
 
 impl HostOptions {

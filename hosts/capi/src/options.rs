@@ -5,7 +5,7 @@ use crate::fault::Fault;
 use crate::input::range;
 use crate::tls::Tls;
 use krl::{Client, ClientBuilder, END, JoinError, Place, Reader, ShardMap, evict};
-use krl_ffi::text;
+use krl_ffi::{Versioned, text};
 use std::ffi::c_char;
 use std::ops::Range;
 use std::path::Path;
@@ -66,6 +66,10 @@ enum Number<'o> {
     FirstOf(Vec<u8>, &'o Path),
     /// The first one that is free. The lock files are in the user's folder.
     Any,
+}
+
+impl Versioned for Options {
+    const EARLIER: &'static [usize] = &[];
 }
 
 impl Options {
@@ -176,7 +180,7 @@ impl Wish<'_> {
         }
     }
 
-    /// A reader that is connected to the servers of the keys, and follows its map from then on.
+    /// A reader that is connected to the servers of the keys, and follows its map.
     pub fn reader(self) -> Result<Reader, Fault> {
         if !matches!(self.number, Number::Any) || self.wait_if_in_use.is_some() {
             return Err(Fault::misuse(
@@ -188,10 +192,10 @@ impl Wish<'_> {
         if let Some(timeout) = self.timeout {
             reader = reader.with_timeout(timeout);
         }
-        reader.connect(self.keys)?;
         if let Some(file) = self.map_file {
             reader.follow(file).map_err(|error| Fault::misuse(error.to_string()))?;
         }
+        reader.connect(self.keys)?;
         Ok(reader)
     }
 

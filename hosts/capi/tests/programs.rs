@@ -10,8 +10,9 @@ use krl_testing::c_programs::{
 use std::fs;
 use std::io::{BufRead, BufReader};
 use std::path::{Path, PathBuf};
-use std::process::{Command, Stdio};
-use std::time::Duration;
+use std::process::{Child, Command, Stdio};
+use std::thread;
+use std::time::{Duration, Instant};
 
 /// The folder of the package.
 const PACKAGE: &str = env!("CARGO_MANIFEST_DIR");
@@ -113,6 +114,20 @@ impl World {
         assert_eq!(printed, line);
         self.servers.clear();
         assert!(program.wait().unwrap().success());
+    }
+
+    /// Runs a program that reads, and keeps what it has read until its input ends.
+    fn reads(&self, source: &str) -> Child {
+        self.build("cc", source, &[]);
+        let mut program = Command::new(self.program())
+            .args([self.kind, &self.place, &text(&self.folder)])
+            .stdin(Stdio::piped())
+            .stdout(Stdio::piped())
+            .spawn()
+            .unwrap();
+        let mut printed = BufReader::new(program.stdout.take().unwrap()).lines();
+        assert_eq!(printed.next().unwrap().unwrap(), "reads");
+        program
     }
 
     /// Builds a program of the package with these words of the compiler.
@@ -220,6 +235,45 @@ fn calls_of_a_host_that_none_should_make_with_sanitizers_of_memory() {
 #[test]
 fn a_server_that_goes_away_ends_no_program() {
     World::at_socket("parting").ends_under("tests/programs/parting.c", "joined\n");
+}
+
+#[test]
+fn a_process_whose_first_thread_has_ended_is_not_dead() {
+    let world = World::at_socket("headless");
+    let mut program = world.reads("tests/programs/headless.c");
+    let first = format!("/proc/{}/task/{0}/stat", program.id());
+    while !fs::read_to_string(&first).unwrap().contains(") Z ") {
+        thread::sleep(Duration::from_millis(1));
+    }
+    thread::sleep(Duration::from_millis(500));
+    assert_eq!(world.servers[0].status().evicted, 0);
+    drop(program.stdin.take());
+    assert!(program.wait().unwrap().success());
+}
+
+#[test]
+fn a_process_that_returns_from_main_leaves() {
+    let world = World::leased("exits", Duration::from_secs(600));
+    let mut program = world.reads("tests/programs/exits.c");
+    drop(program.stdin.take());
+    assert!(program.wait().unwrap().success());
+    let servers: Servers = world.place.parse().unwrap();
+    let builder = Client::builder(servers, 4, world.folder.join("other.lock"));
+    let other = builder.timeout(Duration::from_secs(20)).join().unwrap();
+    assert_eq!(other.set(10, "other".try_into().unwrap()), Ok(Outcome::Applied));
+    assert_eq!(world.servers[0].status().evicted, 0);
+}
+
+#[test]
+fn a_process_ends_soon_though_its_server_is_gone() {
+    let mut world = World::leased("exits-alone", Duration::from_secs(600));
+    let mut program = world.reads("tests/programs/exits.c");
+    world.servers.clear();
+    let begun = Instant::now();
+    drop(program.stdin.take());
+    assert!(program.wait().unwrap().success());
+    let took = begun.elapsed();
+    assert!(took < Duration::from_secs(5), "{took:?}");
 }
 
 #[test]

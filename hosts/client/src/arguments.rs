@@ -346,8 +346,8 @@ impl ClientCommand {
 /// A range in one word or two.
 #[derive(Clone, Debug, Args)]
 pub struct RangeWords {
-    /// The least key, or the whole range as LO..HI
-    #[arg(value_name = "LO")]
+    /// The whole range as LO..HI, or the least key
+    #[arg(value_name = "LO..HI|LO")]
     first: String,
     /// One past the greatest key
     #[arg(value_name = "HI")]
@@ -363,8 +363,8 @@ impl RangeWords {
 /// A range in one word or two, or all keys.
 #[derive(Clone, Debug, Args)]
 pub struct OptionalRangeWords {
-    /// The least key, or the whole range as LO..HI; all keys by default
-    #[arg(value_name = "LO")]
+    /// The whole range as LO..HI, or the least key; all keys by default
+    #[arg(value_name = "LO..HI|LO")]
     first: Option<String>,
     /// One past the greatest key
     #[arg(value_name = "HI")]

@@ -187,6 +187,10 @@ impl Failure {
                     "another process is the client of number {number}: give this one another --number"
                 ))
             }
+            turned_away @ JoinErrorKind::TurnedAway(_) => Failure::NotJoined(format!(
+                "the client of number {number} can't join: {turned_away}; if its certificate or \
+                 its user has another number, give that by --number"
+            )),
             error => {
                 let what_failed = format!("the client of number {number} can't join");
                 Failure::of_connecting(error, server, &what_failed)

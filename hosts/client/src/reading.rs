@@ -37,12 +37,12 @@ pub fn run(options: &Options, command: &ClientCommand) -> Result<bool, Failure> 
 fn read(options: &Options, keys: Range<u64>) -> Result<Option<Vec<Row>>, Failure> {
     let place = Place::of(options, keys.clone())?;
     let mut reader = place.reader(options.timeout);
-    let connected =
-        with_note_if_long(|| session::waits_for(options), || reader.connect(keys.clone()));
-    connected.map_err(|error| not_connected(options, &place, error))?;
     if let Some(map) = &options.map {
         reader.follow(map).map_err(|error| Failure::not_followed(map, &error))?;
     }
+    let connected =
+        with_note_if_long(|| session::waits_for(options), || reader.connect(keys.clone()));
+    connected.map_err(|error| not_connected(options, &place, error))?;
     Ok(reader.read_at_one_moment(keys)?)
 }
 

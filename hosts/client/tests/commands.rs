@@ -166,7 +166,11 @@ fn an_option_that_a_variable_sets_is_not_shown_as_missing() {
     let world = World::new("missing");
     for (words, missing, usage) in [
         (&["get"][..], "<KEY>", "krl-client get [OPTIONS] <KEY>\n"),
-        (&["hold", "1"], "<COMMAND>...", "krl-client hold [OPTIONS] <LO> [HI] -- <COMMAND>...\n"),
+        (
+            &["hold", "1"],
+            "<COMMAND>...",
+            "krl-client hold [OPTIONS] <LO..HI|LO> [HI] -- <COMMAND>...\n",
+        ),
     ] {
         let ended = world.run(words);
         assert!(ended.errors.contains(&format!("not provided:\n  {missing}\n")), "{ended:?}");

@@ -188,7 +188,7 @@ fn another_map_is_refused_and_the_message_gives_the_remedy() {
     let text = std::fs::read_to_string(&shards.map).unwrap();
     std::fs::write(&old, text.replace("first = 100", "first = 50")).unwrap();
     let old = old.to_str().unwrap();
-    let ended = shards.world.run(&["--map", old, "insert", "60=a"]);
+    let ended = shards.world.run(&["--map", old, "--timeout", "2s", "insert", "60=a"]);
     assert_eq!(ended.status, 4);
     let expected = "shard 1: the client of number 63 can't join: the client takes the server for \
                     50..@1, and it serves 100..@1: ";

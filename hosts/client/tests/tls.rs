@@ -107,6 +107,7 @@ fn a_certificate_of_another_number_is_reported_in_a_sentence() {
     let Ended { status, out, errors } = certified.world.run(&words);
     assert_eq!((status, out.as_str()), (4, ""), "{errors}");
     assert!(errors.contains("no right to the client's number"), "{errors}");
+    assert!(errors.contains("has another number, give that by --number"), "{errors}");
     assert_eq!(errors.lines().count(), 1, "{errors}");
 }
 

@@ -2,6 +2,7 @@
 //! writers of plain SQL, and all of them, the extension's workers, krl's server and PostgreSQL are
 //! killed and stopped.
 mod check;
+mod closed;
 mod faults;
 mod notes;
 mod reader;
@@ -16,6 +17,7 @@ use crate::log::now;
 use crate::lossy::Draws;
 use crate::nodes::end_file;
 use check::{Change, Read, Verdict, Written, check};
+use closed::address_of_reader;
 use faults::{Faults, Stopped};
 use krl_testing::database::{Database, Sql};
 use krl_testing::ports::free_address;
@@ -24,6 +26,7 @@ pub use reader::run as read;
 use readers::{Language, Programs};
 use std::error::Error;
 use std::net::SocketAddr;
+use std::ops::Range;
 use std::path::{Path, PathBuf};
 use std::sync::atomic::{AtomicBool, Ordering};
 use std::thread;
@@ -35,8 +38,10 @@ use writer::Writer;
 const POSTGRESQL: &str = "KRL_POSTGRESQL";
 
 /// The table, and what writes down its changes.
-const TABLE: [&str; 3] = [
+const TABLE: [&str; 5] = [
     include_str!("cache/table.sql"),
+    "CREATE DATABASE spare",
+    "CREATE ROLE spare LOGIN",
     "CREATE EXTENSION krl",
     "SELECT krl.cache('item', stripes => 32)",
 ];
@@ -97,6 +102,8 @@ struct Drive {
     draws: Draws,
     faults: Faults,
     stopped: Stopped,
+    /// When nothing may have been read.
+    closed: Vec<Range<u64>>,
 }
 
 /// Drives readers and writers for this many seconds, and compares what was read.
@@ -149,6 +156,7 @@ impl Drive {
             draws: Draws(now()),
             faults: Faults::default(),
             stopped: Stopped::default(),
+            closed: Vec::new(),
         };
         let readers = Language::ALL.into_iter().map(|language| drive.start_reader(language));
         drive.readers = readers.collect::<Result<_, _>>()?;
@@ -161,7 +169,8 @@ impl Drive {
 
     fn start_reader(&mut self, language: Language) -> std::io::Result<Process> {
         self.spawned += 1;
-        let (name, database) = (language.name(self.spawned), self.database.address::<String>());
+        let name = language.name(self.spawned);
+        let database = address_of_reader(&self.database.address::<String>());
         Process::start(&mut self.programs.command(language, &name, &database)?)
     }
 
@@ -222,7 +231,7 @@ impl Drive {
         let (written, last) = self.read_everything()?;
         let mut noted = noted(&self.folder)?;
         noted.reads.push(last);
-        let verdict = check(&written, &noted.transactions, &noted.reads);
+        let verdict = check(&written, &noted.transactions, &noted.reads, &self.closed);
         for shown in &verdict.shown {
             eprintln!("{}", shown.chars().take(600).collect::<String>());
         }

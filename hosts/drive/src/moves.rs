@@ -1,7 +1,8 @@
 //! A table whose shards are cut, merged and moved by `krl-server reshard`, while clients that follow
 //! the map read and write. The command is killed now and then; what does not run is started then, as
-//! a service manager would, and the command is repeated. At other changes a client dies just before,
-//! or one stays that does not follow the map.
+//! a service manager would, and the command is repeated. A second operator repeats it at the same
+//! moment, gives it up before, or moves the other shard, next to the first one or after the kill. At
+//! other changes a client dies just before, or one stays that does not follow the map.
 //!
 //! The clients are those of [`crate::shards`] and [`crate::bystanders`]. No call may fail, and at the
 //! end each row is in one store.
@@ -62,6 +63,8 @@ struct Changes<'p> {
     /// How many kills are to come, and how many there were.
     kills_left: u64,
     kills: u32,
+    /// How many commands a second operator ran.
+    second: u32,
     /// How long the last change took that was not killed.
     took: Duration,
 }
@@ -75,6 +78,7 @@ pub fn run(folder: &Path, seconds: u64, kills: u64, program: &Path) -> Found {
         stayed: 0,
         kills_left: kills,
         kills: 0,
+        second: 0,
         took: Duration::from_secs(1),
     };
     let first = changes.begin()?;
@@ -84,10 +88,10 @@ pub fn run(folder: &Path, seconds: u64, kills: u64, program: &Path) -> Found {
     let counts = run.work(&writer, &readers, || changes.change_for(first, seconds, &run))?;
     drop((writer, readers));
     changes.table.stop_all()?;
-    let Changes { made, kills, died, stayed, .. } = changes;
+    let Changes { made, kills, second, died, stayed, .. } = changes;
     let what = format!(
-        "{made} changes of shards, {kills} kills, {died} clients that died, {stayed} that did not \
-         follow the map"
+        "{made} changes of shards, {kills} kills, {second} commands of a second operator, {died} \
+         clients that died, {stayed} that did not follow the map"
     );
     let (is_right, failed) = (run.judge(&counts, &what)?, run.failed());
     if failed > 0 {
@@ -133,6 +137,11 @@ impl Changes<'_> {
                 Layout::Two([whole, new])
             }
             Layout::Two([lower, upper]) => match self.made % 4 {
+                1 if self.made / 4 % 2 == 1 => {
+                    let second = self.table.new_server()?;
+                    self.move_both([&lower, &upper], [&second, &new])?;
+                    Layout::Two([second, new])
+                }
                 1 => {
                     self.reshard(&Change::Move { old: &upper, first: BOUND }, &new)?;
                     Layout::Two([lower, new])
@@ -152,10 +161,65 @@ impl Changes<'_> {
         })
     }
 
+    /// Two operators move a shard each: at the same moment, or the second one when the command of the
+    /// first one was killed.
+    fn move_both(
+        &mut self,
+        [lower, upper]: [&ShardServer; 2],
+        [new_lower, new_upper]: [&ShardServer; 2],
+    ) -> Done {
+        let first = Change::Move { old: upper, first: BOUND };
+        let second = Change::Move { old: lower, first: 0 };
+        let mut killed = self.table.reshard(&first, new_upper)?;
+        let mut other = self.table.reshard(&second, new_lower)?;
+        let at_once =
+            if (self.made / 8).is_multiple_of(2) { Some(start(&mut other)?) } else { None };
+        let is_first_made = self.is_made_though_killed(&mut killed)?;
+        let mut process = at_once.map_or_else(|| start(&mut other), Ok)?;
+        let is_second_made = process.wait()?.success();
+        self.second += 1;
+        self.repeat_until_made(is_first_made, &mut killed, &first, new_upper)?;
+        self.repeat_until_made(is_second_made, &mut other, &second, new_lower)
+    }
+
     /// Makes a change, and repeats it until it is made.
     fn reshard(&mut self, change: &Change<'_>, new: &ShardServer) -> Done {
         let mut command = self.table.reshard(change, new)?;
-        let mut is_made = self.is_made_though_hindered(&mut command)?;
+        let is_made = self.is_made_though_hindered(&mut command)?;
+        if !is_made {
+            self.run_second_operator(&mut command, change, new)?;
+        }
+        self.repeat_until_made(is_made, &mut command, change, new)
+    }
+
+    /// A second operator repeats a command that was killed, while the first one does, or gives the change
+    /// up; or there is none.
+    fn run_second_operator(
+        &mut self,
+        command: &mut Command,
+        change: &Change<'_>,
+        new: &ShardServer,
+    ) -> Done {
+        let mut second = match self.kills % 3 {
+            0 => return Ok(()),
+            1 => start(self.table.reshard(change, new)?.arg("--undo"))?,
+            _ => start(command)?,
+        };
+        self.second += 1;
+        // Each is refused while the other one works; and a change whose rows were cut is not given up.
+        start(command)?.wait()?;
+        second.wait()?;
+        Ok(())
+    }
+
+    fn repeat_until_made(
+        &mut self,
+        is_made: bool,
+        command: &mut Command,
+        change: &Change<'_>,
+        new: &ShardServer,
+    ) -> Done {
+        let mut is_made = is_made;
         for _ in 0..TRIES {
             if is_made {
                 self.made += 1;
@@ -166,7 +230,7 @@ impl Changes<'_> {
                 let _ = self.table.start(server);
             }
             let begun = Instant::now();
-            is_made = start(&mut command)?.wait()?.success();
+            is_made = start(command)?.wait()?.success();
             self.took = begun.elapsed();
         }
         Err(format!("'{}' fails again and again", change.name()).into())

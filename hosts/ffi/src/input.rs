@@ -27,6 +27,18 @@ pub unsafe fn text<'a>(what: &str, at: *const c_char) -> Result<Option<&'a str>,
     text.to_str().map(Some).map_err(is_not)
 }
 
+/// Options that begin with their size, and get more members in later versions of the header.
+pub trait Versioned {
+    /// The sizes that they had in the versions that were released before this one.
+    const EARLIER: &'static [usize];
+}
+
+/// Whether a version of the options has this size: an earlier one, this one, or one to come.
+fn is_of_a_version<T: Versioned>(size: usize) -> bool {
+    let later = size_of::<T>()..=MAX_SIZE;
+    T::EARLIER.contains(&size) || later.contains(&size) && size.is_multiple_of(align_of::<T>())
+}
+
 /// Options that begin with their size, of any version of the header. The members that the caller
 /// does not have are zero.
 ///
@@ -34,14 +46,17 @@ pub unsafe fn text<'a>(what: &str, at: *const c_char) -> Result<Option<&'a str>,
 ///
 /// `at` is null, or points to a size and that many bytes altogether, of which none is written
 /// meanwhile. `T` begins with the size, and all bytes make one.
-pub unsafe fn options_at<T>(at: *const T) -> Result<T, Misuse> {
+pub unsafe fn options_at<T: Versioned>(at: *const T) -> Result<T, Misuse> {
     if at.is_null() {
         return invalid("the pointer to the options is null");
     }
     // SAFETY: each version begins with the size.
     let size = unsafe { at.cast::<usize>().read() };
-    if !(size_of::<usize>()..=MAX_SIZE).contains(&size) {
-        return invalid(format!("`size` of the options is {size}: it is not set"));
+    if !is_of_a_version::<T>(size) {
+        let own = size_of::<T>();
+        let why =
+            format!("`size` of the options is {size}, as in no version: it is {own} in this one");
+        return invalid(why);
     }
     // SAFETY: the caller vouches for this many bytes.
     let bytes = unsafe { slice::from_raw_parts(at.cast::<u8>(), size) };
@@ -69,6 +84,10 @@ mod tests {
         later: u64,
     }
 
+    impl Versioned for Options {
+        const EARLIER: &'static [usize] = &[16];
+    }
+
     const ALL: Options = Options { size: size_of::<Options>(), number: 7, later: 8 };
 
     fn read<T>(options: &T) -> Result<Options, Misuse> {
@@ -83,7 +102,8 @@ mod tests {
         assert_eq!(read(&earlier), Ok(Options { later: 0, ..earlier }));
         assert!(read(&(32_usize, 7_u64, 8_u64, 0_u64)).is_ok(), "nothing later is set");
         assert!(read(&(32_usize, 7_u64, 8_u64, 9_u64)).is_err());
-        for size in [0, 7, MAX_SIZE + 1] {
+        // A pointer among the members may be cut in half by such a size.
+        for size in (0..16).chain(17..24).chain([25, 28, MAX_SIZE + 1, MAX_SIZE + 8]) {
             assert!(read(&Options { size, ..ALL }).is_err(), "{size}");
         }
     }

@@ -204,9 +204,10 @@ class Cluster:
         """A session in the database of the checks."""
         return Session(self.psql())
 
-    def reader(self, servers, number=0):
+    def reader(self, servers, number=0, *words):
         """A client of krl, which is ended with the cluster."""
-        reader = Reader(self.installation.top, servers, number, self.folder / f"reader-{self.port}-{number}.lock")
+        lock_file = self.folder / f"reader-{self.port}-{number}.lock"
+        reader = Reader(self.installation.top, servers, number, lock_file, *words)
         self.installation.started.append(reader)
         return reader
 

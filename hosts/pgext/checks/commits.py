@@ -78,6 +78,31 @@ def check_timeout(cluster, krl, reader):
     cluster.await_workers()
 
 
+def check_database(cluster, krl, reader):
+    """A database is renamed and dropped only after everything was taken back, and before its files are removed. A copy
+    of one has the same stripes."""
+    cluster.sql("CREATE DATABASE old", database="postgres")
+    keys = cluster.keep(reader, "item", 12)
+    cluster.sql("ALTER DATABASE old RENAME TO gone", database="postgres")
+    expect("whether the reader still has the cluster's mark", keys[0] in reader.held(keys), False)
+    cluster.keep(reader, "item", 12)
+    krl.stop()
+    session = cluster.session()
+    session.run("SET krl.timeout = '300ms'")
+    expect_refused("a database", session.run("DROP DATABASE gone"))
+    expect("what the database has", cluster.sql("SELECT 'it'", database="gone"), "it")
+    krl.resume()
+    cluster.await_workers()
+    expect("what the drop of the database prints", session.run("DROP DATABASE gone WITH (FORCE)"), "")
+    session.end()
+    expect("whether the reader still has the cluster's mark", keys[0] in reader.held(keys), False)
+    cluster.sql("CREATE DATABASE copy TEMPLATE checks", database="postgres")
+    cluster.keep(reader, "item", 12)
+    cluster.sql("UPDATE item SET n = n + 1 WHERE id = 12", database="copy")
+    expect("what the reader has after a write of a copy", reader.held(keys), keys[:2])
+    cluster.sql("DROP DATABASE copy", database="postgres")
+
+
 def set_lease(cluster, lease):
     """Changes the lease for which krl.suspend waits."""
     cluster.sql(f"ALTER SYSTEM SET krl.lease = '{lease}'", "SELECT pg_reload_conf()")
@@ -144,6 +169,7 @@ def check(installation):
     check_ended(cluster, krl, reader, "pg_cancel_backend", "canceling statement due to user request")
     check_ended(cluster, krl, reader, "pg_terminate_backend", "terminating connection due to administrator command")
     check_timeout(cluster, krl, reader)
+    check_database(cluster, krl, reader)
     check_suspension_ended(cluster)
     check_suspended_crash(cluster, krl)
     check_killed(cluster, krl, reader)

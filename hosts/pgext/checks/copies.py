@@ -64,6 +64,16 @@ def check_subscription(cluster, reader):
     cluster.sql("SELECT pg_drop_replication_slot('items')", "DELETE FROM item WHERE id = 1000")
 
 
+def check_dump_of_owner(installation, cluster):
+    """A role that owns the tables, and nothing of the extension, dumps its database. Then the extension is removed."""
+    cluster.sql("CREATE DATABASE owned", database="postgres")
+    cluster.sql("CREATE EXTENSION krl", "CREATE ROLE owner LOGIN", "CREATE TABLE own (id bigint PRIMARY KEY)",
+                "ALTER TABLE own OWNER TO owner", "SELECT krl.cache('own', stripes => 16)", database="owned")
+    where = ["-h", cluster.folder, "-p", cluster.port, "-U", "owner"]
+    installation.run("pg_dump", *where, "-f", installation.folder / "owned.sql", "owned")
+    cluster.sql("SELECT krl.uncache(relation) FROM krl.cached", "DROP EXTENSION krl", database="owned")
+
+
 def check_dump(installation, cluster, reader_number):
     """A dump that is restored into another cluster, with another store of krl, has the cached tables."""
     cluster.sql("CREATE TABLE place (country text, code text, PRIMARY KEY (country, code))",
@@ -99,6 +109,7 @@ def check(installation):
     primary.await_workers()
     reader = primary.reader(krl.address)
     check_subscription(primary, reader)
+    check_dump_of_owner(installation, primary)
     check_dump(installation, primary, 1)
     for it in installation.started[3:]:
         it.end()

@@ -132,9 +132,9 @@ class Session(Lines):
 class Reader(Lines):
     """A client of krl in a process of its own."""
 
-    def __init__(self, top, servers, number, lock_file):
+    def __init__(self, top, servers, number, lock_file, *words):
         library = {"KRL_CLIENT_LIBRARY": str(top / "bin/libkrl_client.so"), "PYTHONPATH": str(top / "hosts/python")}
-        words = [PYTHON, Path(__file__).with_name("reader.py"), servers, number, lock_file]
+        words = [PYTHON, Path(__file__).with_name("reader.py"), servers, number, lock_file, *words]
         super().__init__(words, env={**os.environ, **library})
 
     def _ask(self, word, keys):
@@ -155,6 +155,11 @@ class Reader(Lines):
     def stop(self):
         """Stops the process: it gives nothing back."""
         stop_process(self.process.pid)
+
+    def end_by(self, number):
+        """Ends the process by a signal."""
+        self.process.send_signal(number)
+        self.process.wait()
 
     def resume(self):
         """Lets the process continue."""

@@ -6,7 +6,7 @@ from pathlib import Path
 from checks.cluster import Cluster, KrlServer, run
 from checks.processes import Failed
 
-TESTS = ["cache", "writes", "definitions", "rights", "suspend"]
+TESTS = ["cache", "writes", "inheritance", "definitions", "rights", "hostile", "suspend"]
 
 
 def regress(installation, cluster, *tests):

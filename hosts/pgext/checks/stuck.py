@@ -1,10 +1,15 @@
-"""A reader that has stopped delays only commits of rows that it keeps."""
+"""A reader that has stopped delays only commits of rows that it keeps, and one that has ended delays none."""
+import signal
+import time
+
 from checks.cluster import Cluster, KrlServer, expect_refused
 from checks.processes import expect, wait_until
 
 # Longer than the check takes: what waits for the reader waits until it continues.
 LEASE = "300s"
 WORKERS = 4
+# A commit that waits for no lease takes less, in seconds, even on a busy machine.
+AT_ONCE = 4
 
 
 def write_others(cluster, reader, session):
@@ -72,6 +77,19 @@ def check_many_stripes(cluster, stopped, other):
         waiting.end()
 
 
+def check_ended(cluster, krl):
+    """However the process of a reader ends, a commit of its rows does not wait for its lease."""
+    for number, *words in ((signal.SIGKILL,), (signal.SIGTERM,), (signal.SIGTERM, "leaves")):
+        reader = cluster.reader(krl.address, 2, *words)
+        cluster.keep(reader, "item", 50)
+        reader.end_by(number)
+        begun = time.monotonic()
+        cluster.sql("UPDATE item SET n = n + 1 WHERE id = 50")
+        took = time.monotonic() - begun
+        print(f"check: a commit after {number.name} {' '.join(words)}: {took:.2f} seconds", flush=True)
+        expect("whether it is done at once", took < AT_ONCE, True)
+
+
 def check(installation):
     """Checks all of these."""
     krl = KrlServer(installation, lease=LEASE)
@@ -84,3 +102,4 @@ def check(installation):
     check_one_stripe(cluster, stopped, other)
     check_late_requests(cluster, stopped, other)
     check_many_stripes(cluster, stopped, other)
+    check_ended(cluster, krl)

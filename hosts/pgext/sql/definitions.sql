@@ -15,8 +15,14 @@ ALTER TABLE item ENABLE TRIGGER ALL;
 SELECT quiet('item', 1);
 ALTER TABLE item ENABLE ALWAYS TRIGGER krl_changed;
 SELECT quiet('item', 1);
-ALTER TABLE item ENABLE ALWAYS TRIGGER krl_truncated;
+SELECT krl.cache('item');
 SELECT quiet('item', 1);
+ALTER TABLE part DISABLE TRIGGER ALL;
+ALTER TABLE part ENABLE TRIGGER ALL;
+SELECT quiet('part', 1);
+SELECT krl.cache('part');
+SELECT quiet('part', 1);
+TRUNCATE part;
 SELECT FROM since();
 
 ALTER TABLE item ADD COLUMN color text DEFAULT 'red';
@@ -44,48 +50,6 @@ SELECT quiet('item', 1);
 ALTER TABLE item DISABLE ROW LEVEL SECURITY;
 SELECT quiet('item', 1);
 SELECT FROM since();
-
--- Partitions: a new one has no trigger of TRUNCATE before the next krl.cache.
-CREATE TABLE part1 (id bigint PRIMARY KEY, n bigint);
-INSERT INTO part1 VALUES (15, 0);
-SELECT quiet('part', 15);
-ALTER TABLE part ATTACH PARTITION part1 FOR VALUES FROM (10) TO (20);
-SELECT * FROM since();
-SELECT quiet('part', 15);
-SELECT krl.cache('part');
-INSERT INTO part VALUES (5, 0);
-SELECT quiet('part', 5, 12);
-SELECT FROM since();
--- The row moves to the other partition.
-UPDATE part SET id = 12 WHERE id = 5;
-SELECT * FROM since();
-SELECT quiet('part', 15);
-TRUNCATE part1;
-SELECT * FROM since();
-SELECT quiet('part', 15);
-ALTER TABLE part DETACH PARTITION part1 CONCURRENTLY;
-ALTER TABLE part DETACH PARTITION part1;
-SELECT * FROM since();
-SELECT quiet('part', 15);
-
--- Tables that inherit.
-SELECT quiet('item', 1);
-CREATE TABLE child () INHERITS (item);
-SELECT * FROM since();
-SELECT quiet('item', 1);
-ALTER TABLE child NO INHERIT item;
-SELECT quiet('item', 1);
-SELECT FROM since();
-
--- A table that is cached and inherits gets a column with the other one.
-CREATE TABLE elder (id bigint PRIMARY KEY);
-CREATE TABLE younger (PRIMARY KEY (id)) INHERITS (elder);
-SELECT krl.cache('younger', stripes => 16);
-SELECT quiet('younger', 1);
-SELECT FROM since();
-ALTER TABLE elder ADD COLUMN n bigint;
-SELECT * FROM since();
-DROP TABLE younger, elder;
 
 -- A schema that is renamed: its tables have other names, which may be those of others next.
 CREATE SCHEMA shop;
@@ -132,6 +96,32 @@ INSERT INTO item (id, n) VALUES ('a', 1);
 SELECT krl.uncache('item');
 SELECT krl.cache('item', stripes => 64);
 INSERT INTO item (id, n) VALUES ('a', 1);
+SELECT FROM since();
+
+-- An unlogged table, which a crash empties.
+CREATE TABLE lasting (id bigint PRIMARY KEY);
+SELECT krl.cache('lasting', stripes => 16);
+SELECT quiet('lasting', 1);
+SELECT FROM since();
+ALTER TABLE lasting SET UNLOGGED;
+SELECT * FROM since();
+SELECT quiet('lasting', 1);
+ALTER TABLE lasting SET LOGGED;
+SELECT quiet('lasting', 1);
+DROP TABLE lasting;
+SELECT quiet('part', 1);
+SELECT FROM since();
+ALTER TABLE part0 SET UNLOGGED;
+SELECT * FROM since();
+SELECT quiet('part', 1);
+ALTER TABLE part0 SET LOGGED;
+SELECT quiet('part', 1);
+CREATE UNLOGGED TABLE part2 (id bigint PRIMARY KEY, n bigint);
+ALTER TABLE part ATTACH PARTITION part2 FOR VALUES FROM (20) TO (30);
+SELECT krl.cache('part');
+SELECT quiet('part', 1);
+DROP TABLE part2;
+SELECT quiet('part', 1);
 SELECT FROM since();
 
 -- Other tables are left alone.

@@ -73,6 +73,58 @@ SELECT quiet('part', 0);
 ALTER ROLE operator NOSUPERUSER;
 SELECT * FROM since();
 
+-- A role that may no longer begin a session keeps nothing, also by a session that it has.
+CREATE ROLE visitor LOGIN;
+GRANT SELECT ON part TO visitor;
+SET SESSION AUTHORIZATION visitor;
+SELECT krl.quiet(:nonce, 'part', :mark, '{0}');
+RESET SESSION AUTHORIZATION;
+ALTER ROLE visitor LOGIN;
+SELECT * FROM since();
+ALTER ROLE visitor NOLOGIN;
+SELECT * FROM since();
+SET SESSION AUTHORIZATION visitor;
+SELECT krl.quiet(:nonce, 'part', :mark, '{0}');
+RESET SESSION AUTHORIZATION;
+ALTER ROLE visitor LOGIN;
+SELECT quiet('part', 0);
+SELECT FROM since();
+REVOKE CONNECT ON DATABASE :this FROM PUBLIC;
+SELECT * FROM since();
+SET SESSION AUTHORIZATION visitor;
+SELECT krl.quiet(:nonce, 'part', :mark, '{0}');
+RESET SESSION AUTHORIZATION;
+GRANT CONNECT ON DATABASE :this TO PUBLIC;
+SELECT quiet('part', 0);
+ALTER ROLE visitor VALID UNTIL '2001-02-03';
+SELECT * FROM since();
+SELECT quiet('part', 0);
+ALTER ROLE visitor CONNECTION LIMIT 0;
+SELECT * FROM since();
+-- Another role may have the name next.
+SELECT quiet('part', 0);
+ALTER ROLE visitor RENAME TO guest;
+SELECT * FROM since();
+
+-- Databases: another one may have the name next.
+SELECT quiet('part', 0);
+CREATE DATABASE other_database;
+SELECT * FROM since();
+ALTER DATABASE other_database RENAME TO last_database;
+SELECT * FROM since();
+SELECT quiet('part', 0);
+CREATE ROLE holder;
+ALTER DATABASE last_database OWNER TO holder;
+SELECT * FROM since();
+SELECT quiet('part', 0);
+REASSIGN OWNED BY holder TO CURRENT_USER;
+SELECT * FROM since();
+SELECT quiet('part', 0);
+DROP DATABASE last_database WITH (FORCE);
+SELECT * FROM since();
+DROP ROLE holder;
+SELECT FROM since();
+
 -- Who drops a table needs no right to change krl.cached.
 CREATE TABLE owned (id bigint PRIMARY KEY);
 SELECT krl.cache('owned', stripes => 16);
@@ -81,6 +133,21 @@ SET ROLE reader;
 DROP TABLE owned;
 RESET ROLE;
 SELECT * FROM krl.cached WHERE relation NOT IN (SELECT oid FROM pg_class);
+SELECT FROM since();
+
+-- Nor does the owner of a table who makes partitions of it.
+CREATE SCHEMA own AUTHORIZATION reader;
+CREATE TABLE own.parts (id bigint PRIMARY KEY) PARTITION BY RANGE (id);
+ALTER TABLE own.parts OWNER TO reader;
+SELECT krl.cache('own.parts', stripes => 16);
+SET ROLE reader;
+CREATE TABLE own.part0 PARTITION OF own.parts FOR VALUES FROM (0) TO (10);
+CREATE TABLE own.part1 (id bigint PRIMARY KEY);
+ALTER TABLE own.parts ATTACH PARTITION own.part1 FOR VALUES FROM (10) TO (20);
+RESET ROLE;
+SELECT krl.cache('own.parts');
+SELECT quiet('own.parts', 1);
+DROP SCHEMA own CASCADE;
 SELECT FROM since();
 
 SET ROLE reader;

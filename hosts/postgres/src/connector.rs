@@ -7,7 +7,7 @@ use std::sync::Arc;
 use tokio::io::{AsyncRead, AsyncWrite};
 use tokio::sync::Notify;
 use tokio::task::JoinHandle;
-use tokio_postgres::{AsyncMessage, Client, Config, Connection, Error, NoTls};
+use tokio_postgres::{AsyncMessage, CancelToken, Client, Config, Connection, Error, NoTls};
 
 /// Connects to the database of an address, by TLS if the address asks for it.
 #[derive(Clone)]
@@ -21,6 +21,15 @@ pub struct Connector {
 /// The task that carries a connection. It ends with this, also if the connection is silent.
 #[derive(Debug)]
 pub struct Carrier(JoinHandle<()>);
+
+impl Carrier {
+    /// Waits until the connection has ended. If nobody has its client any more, that is when the
+    /// database has answered all that was asked.
+    pub async fn ended(&mut self) {
+        // A task that has panicked has ended too.
+        let _ = (&mut self.0).await;
+    }
+}
 
 impl Drop for Carrier {
     fn drop(&mut self) {
@@ -61,6 +70,19 @@ impl Connector {
     /// If the database does not answer, or refuses the user; if TLS fails.
     pub async fn connect(&self) -> Result<(Client, Carrier), Error> {
         self.connect_and_tell(Arc::default()).await
+    }
+
+    /// Asks the database, over a connection of its own, to cancel the statement of the connection of
+    /// this token. Whether it has is not reported.
+    ///
+    /// # Errors
+    ///
+    /// If the database does not answer; if TLS fails.
+    pub async fn cancel(&self, token: &CancelToken) -> Result<(), Error> {
+        match &self.tls {
+            Some(tls) => token.cancel_query(tls.clone()).await,
+            None => token.cancel_query(NoTls).await,
+        }
     }
 
     /// The same. What is told learns of each notification, and of the end of the connection.

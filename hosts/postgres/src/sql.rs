@@ -38,10 +38,12 @@ pub(crate) const TABLES: &str = "
 
 /// A connection answers a commit when it is on the disk, and on the replicas that the database
 /// waits for. A statement that waited for the head's row compares the row again. Both are so
-/// whatever the database's own settings are.
+/// whatever the database's own settings are. Each name without a schema is one of PostgreSQL's own,
+/// whatever others have made in a schema of the role's search path.
 pub(crate) const SESSION: &str = "
     SET synchronous_commit = on;
-    SET default_transaction_isolation = 'read committed';";
+    SET default_transaction_isolation = 'read committed';
+    SET search_path = pg_catalog, pg_temp;";
 
 /// Whether the database itself writes to the disk what it reports as written.
 pub(crate) const IS_SAFE: &str =

@@ -19,7 +19,7 @@ KeyValue = int | str | UUID
 # Codes of the header.
 OK, ABSENT, MISS, ANSWERS, BAD_COLUMN, AWAY = 0, 2, 5, 15, 84, 86
 
-_AT_ONCE = """version:i fault:ipp statistics_of:ippp cached_get:ippnpp cached_get_many:ippnnpp
+_AT_ONCE = """version:i fault:ipp table_fault:ipp statistics_of:ippp cached_get:ippnpp cached_get_many:ippnnpp
     cached_range:ipttpp cached_packed:ippnpppp rows_new:p rows_share:pp rows_free:-p rows_count:np
     has_row:?pn packed:ppnpp columns:npn column_name:ppnnp column_type:ipnn text:ipnnppp"""
 _WAITING = """open:ippp close:-p table_open:ipspp table_free:-p get:ippnpp get_many:ippnnpp
@@ -31,7 +31,7 @@ STATISTICS, _INTEGER = struct.Struct("=9Q"), struct.Struct("=I4xq16x")
 
 
 class Failure(ctypes.Structure):  # krlcache_error
-    _fields_ = [("code", c_uint32), ("text", c_char * 500)]
+    _fields_ = [("code", c_uint32), ("sentence", c_char * 500), ("sqlstate", c_char * 6)]
 
 
 class Options(ctypes.Structure):  # krlcache_options
@@ -43,9 +43,11 @@ class Value(ctypes.Structure):  # krlcache_value
 
 
 class CacheError(Error):
-    """A call of a cache failed. ``code`` is that of ``krl_cache.h``."""
+    """A call of a cache failed. ``code`` is that of ``krl_cache.h``, and ``sqlstate`` the code that
+    the database reported, such as ``"42501"``, or ``None`` if it reported none."""
 
     code = 0
+    sqlstate: str | None = None
     kinds: "dict[int, type[CacheError]]" = {}
 
     def __init_subclass__(cls, code: int) -> None:
@@ -77,7 +79,17 @@ def calls() -> SimpleNamespace:
 
 def refused(code: int, failure: Failure) -> CacheError:
     """The error of a call that returned this code."""
-    return CacheError.kinds.get(code, Stopped)(failure.text.decode())
+    error = CacheError.kinds.get(code, Stopped)(failure.sentence.decode())
+    error.sqlstate = failure.sqlstate.decode() or None
+    return error
+
+
+def fault_of(name: str, handle: c_void_p) -> str | None:
+    """The sentence of a call that reports why rows are not kept, if they are not."""
+    code = getattr(calls(), name)(handle, byref(failure := Failure()))
+    if code not in (OK, AWAY):
+        raise refused(code, failure)
+    return failure.sentence.decode() if code == AWAY else None
 
 
 def call(name: str, *words: Any) -> int:

@@ -1,6 +1,6 @@
-"""The client for ``asyncio``: calls of ``krl.Client`` and ``krl.Pin``, awaited if they may wait.
-A thread waits in place of the task. If a task is cancelled, its call continues: a write may be
-applied, and a pin that is taken is freed at once."""
+"""The client for ``asyncio``: each call of ``krl``, awaited if it may wait. A thread waits in place
+of the task. If a task is cancelled, its call continues: a write may be applied, and a pin that is
+taken is freed at once."""
 
 import asyncio
 import functools
@@ -43,6 +43,15 @@ class _Calls:
         self.set, self.delete = _awaited(of_threads.set), _awaited(of_threads.delete)
         self.write_all = _awaited(of_threads.write_all)
 
+    @property
+    def timeout(self) -> float:
+        """How many seconds a call waits that has no timeout of its own: a millisecond to a year."""
+        return self.of_threads.timeout
+
+    @timeout.setter
+    def timeout(self, seconds: float) -> None:
+        self.of_threads.timeout = seconds
+
     async def __aenter__(self) -> Self:
         return self
 
@@ -68,7 +77,10 @@ class Client(_Calls):
     def __init__(self, client: threads.Client) -> None:
         super().__init__(client)
         self.number, self.cached, self.status = client.number, client.cached, client.status
+        self.epoch, self.keep_all, self.follow = client.epoch, client.keep_all, client.follow
         self.forget, self.leave = _awaited(client.forget), _awaited(client.leave)
+        self.reload_tls = _awaited(client.reload_tls)
+        self.wait_for_change = _awaited(client.wait_for_change)
         self.pin, self.pin_for_read = _awaited(client.pin, Pin), _awaited(client.pin_for_read, Pin)
         self.pin_for_update = _awaited(client.pin_for_update, Pin)
         self.pin_for_write = _awaited(client.pin_for_write, Pin)
@@ -94,5 +106,15 @@ class Client(_Calls):
                 yield rows
 
 
+class Reader:
+    """A reader, as ``connect_reader`` returns it. ``of_threads`` is the same one, whose calls are
+    not awaited."""
+
+    def __init__(self, reader: threads.Reader) -> None:
+        self.of_threads = reader
+        self.read, self.get = _awaited(reader.read), _awaited(reader.get)
+
+
 connect, join = _awaited(threads.connect, Client), _awaited(threads.join, Client)
-join_map = _awaited(threads.join_map, Client)
+join_map, evict = _awaited(threads.join_map, Client), _awaited(threads.evict)
+connect_reader = _awaited(threads.Reader, Reader)

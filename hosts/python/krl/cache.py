@@ -19,7 +19,7 @@ from collections.abc import Callable, Iterable, Sequence
 from enum import Enum
 from typing import Any, Final, Literal, NamedTuple, Self, TypeVar
 
-from ._cache_library import ABSENT, AWAY, MISS as _MISS, OK, STATISTICS, Failure, KeyValue, Options
+from ._cache_library import ABSENT, MISS as _MISS, OK, STATISTICS, Failure, KeyValue, Options
 from ._cache_library import BadAddress as BadAddress, BadArgument as BadArgument
 from ._cache_library import BadKey as BadKey, BadNumbers as BadNumbers
 from ._cache_library import BadTls as BadTls, CacheError as CacheError, Closed as Closed
@@ -27,7 +27,7 @@ from ._cache_library import DatabaseError as DatabaseError, Forked as Forked
 from ._cache_library import NoExtension as NoExtension, NotCached as NotCached
 from ._cache_library import OutOfMemory as OutOfMemory, SeveralRows as SeveralRows
 from ._cache_library import Stopped as Stopped, SystemRefused as SystemRefused
-from ._cache_library import Room, call, calls, packed_key, refused
+from ._cache_library import Room, call, calls, fault_of, packed_key, refused
 from ._cache_rows import Row as Row, packed_row, row_at, rows_in
 from ._library import Handle, made, workers
 from .client import Tls, _milliseconds
@@ -143,6 +143,11 @@ class Table:
         rows = self._cached("cached_range", *_ends(start, stop))
         return rows if rows is MISS else _all(rows)
 
+    def fault(self) -> str | None:
+        """Why the rows of this table are not kept at present: the fault of the cache, or what the
+        database reports of this table, such as a missing right."""
+        return fault_of("table_fault", self._handle)
+
     def statistics(self) -> Statistics:
         """What was done since the table was opened."""
         counted, failure = ctypes.create_string_buffer(STATISTICS.size), Failure()
@@ -168,7 +173,7 @@ class Table:
 
 class Cache:
     """The tables that a process reads: it opens one, which is one client of krl. It gives back all
-    that it holds at the end of a ``with``, when it is collected, and when the interpreter ends.
+    that it holds at the end of a ``with``, when it is collected, and when the process exits.
 
     ``database`` is an address such as ``postgres://shop@127.0.0.1:5432/shop``, without a password;
     ``lock_folder`` is the same one for all processes of this machine. ``user`` has the name and the
@@ -186,6 +191,7 @@ class Cache:
         if code := library.open(ctypes.byref(options), room, ctypes.byref(failure)):
             raise refused(code, failure)
         self._end = weakref.finalize(self, library.close, self._handle)
+        self._end.atexit = False  # The library gives back when the process ends.
 
     def __repr__(self) -> str:
         return f"<krl.cache.Cache of {self._database}>"
@@ -201,11 +207,8 @@ class Cache:
         return self._handle
 
     def fault(self) -> str | None:
-        """Why rows are not kept at present, while the database answers all reads."""
-        code = calls().fault(self._own(), ctypes.byref(failure := Failure()))
-        if code not in (OK, AWAY):
-            raise refused(code, failure)
-        return failure.text.decode() if code == AWAY else None
+        """Why the rows of no table are kept at present, while the database answers all reads."""
+        return fault_of("fault", self._own())
 
     def close(self) -> None:
         """Gives back all that the process holds, and waits until that is done. Its tables are read
@@ -268,6 +271,7 @@ class AsyncTable:
 
     def __init__(self, table: Table) -> None:
         self.of_threads, self.name, self.statistics = table, table.name, table.statistics
+        self.fault = table.fault
         self.cached_get, self.cached_get_many = table.cached_get, table.cached_get_many
         self.cached_range = table.cached_range
 

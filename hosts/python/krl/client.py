@@ -154,12 +154,13 @@ class Pin(_Writer):
 
 class Client(_Writer):
     """A client. Any threads may use it. It leaves at the end of a ``with``, when it is collected,
-    and when the interpreter ends. In the child of a fork its calls raise ``Forked``."""
+    and when the process exits. In the child of a fork its calls raise ``Forked``."""
 
     def __init__(self, place: str, options: Options) -> None:
         self._place, self._handle = place, Handle("free")
         call("join", ctypes.byref(options), ctypes.byref(self._handle))
         self._end = weakref.finalize(self, library().leave, self._handle, 1000, None)
+        self._end.atexit = False  # The library leaves when the process ends.
         self.timeout = options.timeout_ms / 1000
         self.number: int = library().number(self._handle)
 
@@ -322,10 +323,6 @@ class Reader:
         return rows[0].value if rows else None
 
 
-# At exit, finalizers run after the functions that a program registers with `atexit` from here on.
-weakref.finalize(Client, int)
-
-
 def connect(servers: str, timeout: float = 15.0, *, tls: Tls | None = None) -> Client:
     """Joins the server by the first number that is free. The lock file is in the folder ``krl`` of
     ``$XDG_STATE_HOME`` or ``$HOME/.local/state``. This is for servers with leases: without them, a
@@ -347,7 +344,8 @@ def join_map(map: PathLike, number: Numbers, lock_folder: PathLike, timeout: flo
              *, keys: tuple[int, int] = (0, TOP), tls: Tls | None = None,
              wait_if_in_use: Seconds = None) -> Client:
     """Joins the servers of a map of shards, as ``join`` does one server: those that have some of
-    the keys from the first of ``keys`` on below the second."""
+    the keys from the first of ``keys`` on below the second. While a shard changes it waits, and
+    continues by a next map in the file."""
     texts = {"map": map, "lock_file": lock_folder}
     options = _options(number, tls, timeout, wait_if_in_use, **texts)
     options.lo, options.hi = _range(*keys)

@@ -66,13 +66,12 @@ def free_port() -> int:
 
 def listens(address: str) -> bool:
     """Whether something listens at an address of a server."""
-    kind, place = address.split(":", 1)
-    family, at = socket.AF_UNIX, place
-    if kind == "tls":
-        host, port = place.split(":")
-        family, at = socket.AF_INET, (host, int(port))
-    with socket.socket(family) as connection:
-        return connection.connect_ex(at) == 0
+    if address.startswith("unix:"):
+        with socket.socket(socket.AF_UNIX) as connection:
+            return connection.connect_ex(address.removeprefix("unix:")) == 0
+    host, port = address.removeprefix("tls:").split(":")
+    with socket.socket() as connection:
+        return connection.connect_ex((host, int(port))) == 0
 
 
 def lines_of(*lines: str) -> list[str]:

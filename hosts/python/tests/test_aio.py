@@ -3,6 +3,7 @@
 from __future__ import annotations
 
 import asyncio
+import inspect
 import unittest
 from collections.abc import Coroutine
 from typing import Any
@@ -12,6 +13,20 @@ import krl.aio
 from krl import Outcome, Row
 
 from .serving import PATIENCE, Served
+
+# Calls that wait for nobody: a task makes them itself.
+AT_ONCE = {"cached", "epoch", "follow", "keep_all", "status", "changes", "free", "holds"}
+# A constructor cannot be awaited.
+NAMED_OTHERWISE = {"Reader": "connect_reader"}
+
+
+def public(thing: object) -> set[str]:
+    return {name for name in dir(thing) if not name.startswith("_")}
+
+
+def parameters(call: Any) -> list[tuple[str, Any, Any]]:
+    named = inspect.signature(call).parameters.values()
+    return [(it.name, it.kind, it.default) for it in named]
 
 
 class AsyncTest(Served):
@@ -45,6 +60,48 @@ class AsyncTest(Served):
                 self.assertEqual((client.number, client.status()[0].epoch), (0, 1))
             with self.assertRaises(krl.Closed):
                 await client.read()
+
+        self.run_within(calls())
+
+    def compare(self, name: str, call: Any, awaited: Any) -> None:
+        """It takes the same words, and is awaited if it may wait."""
+        self.assertEqual(callable(awaited), callable(call), name)
+        if callable(call):
+            self.assertEqual(parameters(awaited), parameters(call), name)
+            self.assertEqual(inspect.iscoroutinefunction(awaited), name not in AT_ONCE, name)
+
+    def test_each_call_is_there(self) -> None:
+        async def compare() -> None:
+            async with await self.joined(0) as client, await client.pin(0, 20) as pin:
+                reader = await krl.aio.connect_reader(self.address)
+                for tasks in (client, pin, reader):
+                    threads = tasks.of_threads
+                    self.assertEqual(public(tasks), public(threads) | {"of_threads"})
+                    for name in public(threads):
+                        self.compare(name, getattr(threads, name), getattr(tasks, name))
+
+        self.run_within(compare())
+        calls = {name for name in public(krl) if inspect.isfunction(getattr(krl, name))}
+        for name in calls | NAMED_OTHERWISE.keys():
+            awaited = getattr(krl.aio, NAMED_OTHERWISE.get(name, name))
+            self.compare(name, getattr(krl, name), awaited)
+
+    def test_the_calls_that_the_others_have_not_shown(self) -> None:
+        async def calls() -> None:
+            async with await self.joined(0) as one, await self.joined(1) as other:
+                self.assertEqual(one.epoch(), 1)
+                one.keep_all()
+                with self.assertRaises(krl.Refused):
+                    one.follow()  # it has no map
+                one.timeout = PATIENCE / 2
+                self.assertEqual(one.of_threads.timeout, PATIENCE / 2)
+                rows = await one.read(0, 20)
+                waiting = asyncio.create_task(one.wait_for_change(0, 20, rows, PATIENCE))
+                await other.insert(10, b"1")
+                self.assertTrue(await waiting)
+            reader = await krl.aio.connect_reader(self.address, timeout=PATIENCE)
+            self.assertEqual(await reader.read(), [Row(10, b"1")])
+            self.assertEqual([await reader.get(10), await reader.get(11)], [b"1", None])
 
         self.run_within(calls())
 

@@ -27,7 +27,7 @@ from krl import _cache_library as lib
 from krl._cache_rows import _CONVERSIONS
 from krl.cache import MISS, AsyncCache, Cache, Row
 
-from .serving import PATIENCE, in_child, program, until
+from .serving import PATIENCE, in_child, lines_of, program, until
 
 T = TypeVar("T")
 
@@ -184,12 +184,14 @@ class TableTest(Site):
         cache = self.cache()
         items = cache.table("item")
         for name, error, text in (
-            ("plain", reader.NotCached, "the table plain is not cached"),
+            ("plain", reader.NotCached, "plain is not cached"),
             ("missing", reader.DatabaseError, "does not exist"),
             ("item\0", reader.BadArgument, "has a zero in it"),
         ):
-            with self.assertRaisesRegex(error, text):
+            with self.assertRaisesRegex(error, text) as refused:
                 cache.table(name)
+            sqlstate = "42P01" if error is reader.DatabaseError else None
+            self.assertEqual(refused.exception.sqlstate, sqlstate)
         for key in ((), ("lamp",), (3, 4), (1 << 63,)):
             with self.assertRaises((reader.BadKey, reader.BadArgument), msg=str(key)):
                 items.get(*key)
@@ -208,11 +210,28 @@ class TableTest(Site):
         with self.assertRaises(reader.SystemRefused):
             Cache(self.database, "/dev/null/locks")
 
+    def test_a_table_reports_why_its_rows_are_not_kept(self) -> None:
+        self.ask("sql CREATE ROLE app LOGIN; GRANT USAGE ON SCHEMA krl TO app; "
+                 "GRANT SELECT ON ALL TABLES IN SCHEMA krl TO app")
+        cache = self.cache(user=("app", "none"))
+        items = cache.table("item")
+        self.assertIsNone(items.fault())
+
+        def is_refused() -> bool:
+            with self.assertRaises(reader.DatabaseError) as refused:
+                items.get(3)
+            self.assertEqual(refused.exception.sqlstate, "42501")
+            return "permission denied for table item" in str(items.fault())
+
+        until(is_refused)
+        self.assertIsNone(cache.fault())
+
     def test_a_closed_cache_keeps_nothing(self) -> None:
         cache = self.cache(numbers=range(40, 44), memory=1 << 20)
         items = cache.table("item")
         self.from_memory(lambda: items.cached_get(4), lambda: items.get(4))
         self.assertIsNone(cache.fault())
+        self.assertIsNone(items.fault())
         cache.close()
         cache.close()
         self.assertIs(items.cached_get(4), MISS)
@@ -221,6 +240,23 @@ class TableTest(Site):
             cache.table("item")
         with self.assertRaises(reader.Closed):
             cache.fault()
+
+    def test_a_process_that_ends_gives_back(self) -> None:
+        lines = (
+            "import krl.cache, signal, sys, time",
+            "signal.signal(signal.SIGTERM, lambda *_: sys.exit())",
+            f"items = krl.cache.Cache({self.database!r}, {self.folder!r}).table('item')",
+            "while items.cached_get(3) is krl.cache.MISS: items.get(3)",
+            "print('keeps', flush=True)",
+            f"time.sleep({PATIENCE})",
+        )
+        with subprocess.Popen(lines_of(*lines), stdout=subprocess.PIPE, text=True) as process:
+            assert process.stdout is not None
+            self.assertEqual(process.stdout.readline(), "keeps\n")
+            process.terminate()
+            self.assertEqual(process.wait(PATIENCE), 0)
+        # The server has no leases, and would wait for it.
+        self.ask("take 100 116")
 
     def test_a_child_reads_nothing_of_its_parent(self) -> None:
         items = self.cache().table("item")
@@ -274,6 +310,7 @@ class AsyncTest(Site):
                 assert row is not None
                 self.assertEqual(row["name"], "item 8")
                 self.assertIsNone(cache.fault())
+                self.assertIsNone(items.fault())
                 notes = await cache.table("note")
                 self.assertEqual(len(await notes.get_all("ada")), 2)
                 self.assertGreater(items.statistics().hits, 0)
@@ -374,7 +411,8 @@ class HeaderTest(unittest.TestCase):
         return re.findall(r"(?:const )?\w+ \*?(\w+)(?:\[\w+\])?;", body[1])
 
     def test_structs_and_codes_are_those_of_the_header(self) -> None:
-        for name, kind in {"options": lib.Options, "value": lib.Value}.items():
+        kinds = {"options": lib.Options, "value": lib.Value, "error": lib.Failure}
+        for name, kind in kinds.items():
             self.assertEqual(self.members(name), [field[0] for field in kind._fields_])
         self.assertEqual(self.members("statistics"), list(reader.Statistics._fields))
         self.assertEqual(lib.STATISTICS.size, 8 * len(reader.Statistics._fields))

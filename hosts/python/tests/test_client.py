@@ -365,9 +365,10 @@ class ServersTest(Served):
         self.assertEqual(client.put(10, b"3"), Outcome.APPLIED)
 
     def test_a_server_that_waits_for_another_client_reports_it_until_that_is_evicted(self) -> None:
-        self.end_without_leaving(7)
         client = self.join(0)
         client.insert(5, b"1")
+        # A server that is there when the process ends evicts it at once.
+        self.end_without_leaving(7, f"os.kill({self.server.pid}, 9)")
         self.start_again()
         client.timeout = 0.5
 

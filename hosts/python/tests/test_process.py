@@ -4,6 +4,7 @@ from __future__ import annotations
 
 import gc
 import os
+import signal
 import subprocess
 import sys
 import threading
@@ -14,7 +15,7 @@ from unittest.mock import patch
 import krl
 from krl import Outcome, Row
 
-from .serving import PATIENCE, Served, in_child, until
+from .serving import PATIENCE, Served, free_port, in_child, lines_of, until
 
 INTERRUPTED = Path(__file__).with_name("interrupted.py")
 
@@ -124,6 +125,43 @@ class ForkTest(Served):
             self.assertTrue(pin.holds())
         self.assertEqual(other.put(10, b"2"), Outcome.APPLIED)
         self.assertEqual(client.read(0, 20), [Row(10, b"2")])
+
+
+class EndedTest(Served):
+    """Processes that end while they keep rows: no write waits for them, also without leases."""
+
+    HANDLER = "signal.signal(signal.SIGTERM, lambda *_: sys.exit())"
+
+    def end_by(self, by: signal.Signals, handler: str = "", address: str = "") -> int:
+        """The status of a process that keeps rows, and is ended by this signal."""
+        # A shell has what it runs in the background ignore SIGINT.
+        interrupts = "signal.signal(signal.SIGINT, signal.default_int_handler)"
+        join = f"client = krl.join({address or self.address!r}, 0, {str(self.lock_file(0))!r})"
+        keep = ("client.read(0, 20)", "print('keeps', flush=True)", f"time.sleep({PATIENCE})")
+        lines = lines_of("import signal, sys, time", interrupts, handler, join, *keep)
+        pipe, nowhere = subprocess.PIPE, subprocess.DEVNULL
+        with subprocess.Popen(lines, stdout=pipe, stderr=nowhere, text=True) as process:
+            assert process.stdout is not None
+            self.assertEqual(process.stdout.readline(), "keeps\n")
+            process.send_signal(by)
+            return process.wait(PATIENCE)
+
+    def test_a_process_of_this_machine_that_has_ended_delays_no_write(self) -> None:
+        other = self.join(1)
+        other.insert(10, b"0")
+        for by in (signal.SIGKILL, signal.SIGTERM, signal.SIGINT):
+            with self.subTest(by=by.name):
+                self.assertEqual(self.end_by(by), -by)
+                self.assertEqual(other.put(10, by.name.encode()), Outcome.APPLIED)
+
+    def test_a_process_that_handles_sigterm_leaves_over_tcp_too(self) -> None:
+        address = f"127.0.0.1:{free_port()}"
+        self.stop()
+        with self.start(*self.SERVED_BY, at=address) as server:
+            self.assertEqual(self.end_by(signal.SIGTERM, self.HANDLER, address), 0)
+            with krl.join(address, 1, self.lock_file(1), PATIENCE) as other:
+                self.assertEqual(other.insert(10, b"0"), Outcome.APPLIED)
+            server.kill()
 
 
 class LeavingTest(Served):

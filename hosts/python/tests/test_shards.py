@@ -2,9 +2,12 @@
 
 from __future__ import annotations
 
+import asyncio
 import time
+from concurrent.futures import ThreadPoolExecutor
 
 import krl
+import krl.aio
 from krl import Outcome, Row
 
 from .serving import PATIENCE, Served, end
@@ -62,11 +65,34 @@ class ShardsTest(Served):
             self.assertEqual(client.read(), [Row(150, b"2")])
             self.assertEqual(client.status()[0].incarnation, before[0].incarnation)
 
+    def test_a_client_of_tasks_follows_its_map(self) -> None:
+        async def follow() -> None:
+            async with await krl.aio.join_map(self.map, 0, self.folder, PATIENCE) as client:
+                client.follow()
+                before = client.status()
+                await asyncio.to_thread(self.move_the_second)
+                while client.status()[1].incarnation == before[1].incarnation:
+                    await asyncio.sleep(0.01)
+                self.assertEqual(await client.set(150, b"1"), Outcome.APPLIED)
+
+        asyncio.run(asyncio.wait_for(follow(), PATIENCE))
+
     def test_a_reader_follows_its_map(self) -> None:
         reader = krl.Reader(map=self.map, timeout=PATIENCE)
         self.move_the_second()
         end(self.second)
         self.assertEqual(reader.read(), [])
+
+    def test_one_that_starts_while_its_shard_changes_waits_for_the_server(self) -> None:
+        """For longer than a client waits where nothing listens."""
+        end(self.second)
+        with ThreadPoolExecutor() as threads:
+            joins = threads.submit(krl.join_map, self.map, 0, self.folder, PATIENCE)
+            connects = threads.submit(krl.Reader, map=self.map, timeout=PATIENCE)
+            time.sleep(2)
+            self.move_the_second()
+            with joins.result() as client:
+                self.assertEqual(client.read(), connects.result().read())
 
     def test_a_client_of_some_keys_joins_their_shards_only(self) -> None:
         self.stop()

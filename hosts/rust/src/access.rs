@@ -5,7 +5,7 @@ pub(crate) mod identity;
 use crate::access::identity::Identity;
 use crate::net::address::Address;
 use crate::net::stream::{Accepted, PeerAddress};
-use crate::net::tls::{Side, TlsConfig, TlsSession};
+use crate::net::tls::{NEEDED, Side, TlsConfig, TlsSession};
 use crate::net::unix_peer::own_user;
 use std::io::{self, ErrorKind};
 
@@ -91,10 +91,7 @@ impl Access {
             ));
         }
         if address.is_tls() && self.tls.is_none() {
-            return refused(format!(
-                "{address} is an address of TLS: it needs a certificate, its key, and that of the \
-                 authority, and the feature `tls`"
-            ));
+            return refused(format!("{address} is an address of TLS: it needs {NEEDED}"));
         }
         Ok(())
     }

@@ -1,4 +1,5 @@
 //! A client over a network, of one server or of several.
+mod alarm;
 pub(crate) mod answer;
 pub(crate) mod asynchronous;
 mod attempt;
@@ -12,6 +13,7 @@ pub(crate) mod engine;
 pub(crate) mod evict;
 #[cfg(feature = "map-file")]
 mod follow;
+mod followed_map;
 pub(crate) mod incarnations;
 mod joined;
 pub(crate) mod joining;
@@ -37,6 +39,7 @@ pub(crate) mod status;
 mod table;
 mod tenure;
 pub(crate) mod timeout;
+mod turns;
 pub(crate) mod waiting;
 pub(crate) mod wakes;
 #[cfg(feature = "map-file")]
@@ -246,7 +249,8 @@ impl Client {
     /// the server by a connection of its own, takes no lock, and keeps nothing: so no write has to
     /// wait for it later. That pays for rows that others write more often than this client reads
     /// them. More than 128 rows, and the parts of several shards, are read one part after another,
-    /// each at a moment of its own. Threads that make this call take turns.
+    /// each at a moment of its own. Threads that make this call take turns, in the order of their
+    /// calls: one whose time is over before its turn ends with `TimedOut`.
     ///
     /// A write of this client whose outcome is not known may be in the rows or not: unlike
     /// [`Client::read`] it waits for none.

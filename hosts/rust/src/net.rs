@@ -4,6 +4,7 @@ pub(crate) mod carrier;
 pub(crate) mod connect_fault;
 pub(crate) mod outbox;
 pub(crate) mod poller;
+pub(crate) mod process;
 pub(crate) mod readiness;
 pub(crate) mod servers;
 pub(crate) mod stream;

@@ -14,3 +14,5 @@ pub use crate::server::strangers::Strangers;
 pub use crate::store::sqlite::checksum::{Checksum, CutOff};
 #[cfg(feature = "sqlite")]
 pub use crate::store::sqlite::copy::StoreFile;
+#[cfg(feature = "sqlite")]
+pub use crate::store::sqlite::name::store_file;

@@ -10,6 +10,7 @@ mod held_back;
 pub(crate) mod listening;
 pub(crate) mod lock_search;
 pub(crate) mod opening;
+mod processes;
 pub(crate) mod questions;
 pub(crate) mod room_at_start;
 pub(crate) mod routing;

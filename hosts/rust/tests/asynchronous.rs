@@ -2,8 +2,10 @@
 mod two_servers;
 
 use krl::{
-    AsyncClient, Client, ErrorKind, Fate, MemoryStore, Mutation, Outcome, Server, Value, Waited,
+    Address, AsyncClient, Client, ErrorKind, Fate, MemoryStore, Mutation, Outcome, Server, Servers,
+    Value, Waited,
 };
+use krl_testing::relay::Relay;
 use krl_testing::wake_count::WakeCount;
 use std::future::Future;
 use std::pin::{Pin, pin};
@@ -112,8 +114,13 @@ fn server() -> Server {
 
 /// A client of this number, with a lock file of this test.
 fn client(server: &Server, number: u8, test: &str) -> AsyncClient {
+    client_at(server.address(), number, test)
+}
+
+/// The same, of the server at this address.
+fn client_at(address: impl Into<Servers>, number: u8, test: &str) -> AsyncClient {
     let name = format!("krl-asynchronous-{test}-{}-{number}.lock", std::process::id());
-    let client = Client::join(server.address(), number, std::env::temp_dir().join(name)).unwrap();
+    let client = Client::join(address.into(), number, std::env::temp_dir().join(name)).unwrap();
     client.set_timeout(LONG);
     AsyncClient::from(client)
 }
@@ -252,6 +259,27 @@ fn a_read_that_is_not_kept_keeps_no_executor_waiting() {
     server.stop().unwrap();
     let client = AsyncClient::from(client.client().within(Duration::from_secs(5)));
     assert!(!ends_at_once(client.read_once(..)), "a thread waits for the server");
+}
+
+/// Reads that are not kept take turns. The first one waits until its connection counts as lost.
+#[test]
+fn a_task_that_waits_for_its_turn_ends_at_its_deadline() {
+    let short = Duration::from_millis(300);
+    let server = server();
+    let Address::Tcp(at) = *server.address() else { panic!("it listens elsewhere") };
+    let relay = Relay::to(at);
+    let client = client_at(relay.at(), 0, "turns");
+    assert_eq!(block_on(client.read_once(..)), Ok(vec![]));
+    relay.swallow();
+    let mut longer = pin!(client.read_once(..));
+    assert!(longer.as_mut().poll(&mut Context::from_waker(&waker())).is_pending());
+    let begun = Instant::now();
+    let within = AsyncClient::from(client.client().within(short));
+    let late = block_on(within.read_once(..)).unwrap_err();
+    assert!(begun.elapsed() < short * 10, "{:?}", begun.elapsed());
+    assert_eq!(late.kind, ErrorKind::TimedOut);
+    assert_eq!(block_on(longer), Ok(vec![]));
+    server.stop().unwrap();
 }
 
 #[test]

@@ -194,7 +194,10 @@ fn a_client_with_an_old_map_writes_to_no_side_of_a_split() {
     let lower = start(&address, store(lower), Some("0..40@2")).unwrap();
     let upper = start("127.0.0.1:0", store(upper), Some("40..@2")).unwrap();
     let new_map = map(2, &[(0, &lower), (40, &upper)]);
-    // The client holds what it needs for this one, and so it may have reached the server before.
+    // A client that does not follow the map learns it before its timeout. It holds what it needs for
+    // this one, and so it may have reached the server before.
+    let (begun, time) = (Instant::now(), Duration::from_secs(10));
+    old.set_timeout(time);
     let unknown = old.insert(10, Value::from(2)).unwrap_err();
     let reason = Refusal::OtherShard(Some(bounds("0..40@2")));
     assert_eq!((unknown.shard, unknown.kind), (Some(0), ErrorKind::Unserved(reason)));
@@ -202,6 +205,7 @@ fn a_client_with_an_old_map_writes_to_no_side_of_a_split() {
     let ErrorKind::OtherShard(other) = refused.kind else { panic!("{refused:?}") };
     assert_eq!((refused.shard, other.served), (Some(0), Some(bounds("0..40@2"))));
     assert!(refused.to_string().contains("has to be loaded again"), "{refused}");
+    assert!(begun.elapsed() < time);
     let new = join(&new_map, 2).unwrap();
     assert_eq!(new.read(..), Ok(vec![Row { key: 50, value: Value::from(1) }]));
     assert_eq!(new.insert(60, Value::from(3)), Ok(Outcome::Applied));

@@ -9,8 +9,8 @@ use std::io;
 use std::num::NonZeroU64;
 use std::path::{Path, PathBuf};
 use std::pin::pin;
-use std::sync::Arc;
 use std::sync::atomic::{AtomicBool, Ordering};
+use std::sync::{Arc, mpsc};
 use std::task::{Context, Poll, Wake, Waker};
 use std::thread::{self, Thread};
 use std::time::{Duration, Instant};
@@ -273,6 +273,69 @@ fn reads_that_are_not_kept_wait_for_the_server_of_the_next_map() {
     });
 }
 
+/// For longer than a client waits where nothing listens: the old server serves the whole shard yet,
+/// and that of the upper half is about to start.
+#[test]
+fn one_that_starts_while_its_shard_changes_waits_for_the_servers() {
+    let mut world = World::new("starts", [10, 60, 150]);
+    let upper = world.new_place();
+    world.map = world.map.split(50, upper).unwrap();
+    let (map, folder) = (world.map.clone(), world.folder.clone());
+    let mut reader = Reader::new(&map).with_timeout(LONG);
+    thread::scope(|scope| {
+        let builder = Client::builder(map, 0, folder).timeout(LONG);
+        let joins = scope.spawn(|| builder.join().unwrap());
+        let connects = scope.spawn(|| reader.connect(..).unwrap());
+        thread::sleep(Duration::from_secs(2));
+        let (below, from) = world.stop(0).split(50);
+        world.start(0, below);
+        world.start(50, from);
+        assert_eq!(keys_of(&joins.join().unwrap().read(..).unwrap()), [10, 60, 150]);
+        connects.join().unwrap();
+    });
+}
+
+/// The change by which the process starts is taken back.
+#[test]
+fn one_that_joins_continues_by_the_next_map_of_its_file() {
+    let mut world = World::new("taken-back", [10, 150]);
+    let old = world.map.shards()[0].servers.clone();
+    world.publish_move(0);
+    let map = ShardMap::from_file(world.map_file()).unwrap();
+    let builder = Client::builder(map, 0, world.folder.clone()).timeout(Duration::from_secs(20));
+    thread::scope(|scope| {
+        let joins = scope.spawn(|| builder.join().unwrap());
+        thread::sleep(SHORT);
+        let rows = world.stop(0);
+        world.map = world.map.with_servers(0, old).unwrap();
+        world.start(0, rows);
+        world.publish();
+        let client = joins.join().unwrap();
+        assert_eq!((version(&client), keys_of(&client.read(..).unwrap())), (3, vec![10, 150]));
+    });
+}
+
+#[test]
+fn one_with_a_wrong_map_learns_at_its_deadline_what_is_wrong() {
+    let world = World::new("wrong", [10, 150]);
+    let elsewhere = world.map.with_servers(0, World::server(&world.folder, 9)).unwrap();
+    let of_another = world.map.merge(BOUND).unwrap();
+    let time = Duration::from_millis(1500);
+    let why = |map: &ShardMap| {
+        let begun = Instant::now();
+        let join = Client::builder(map, 0, &world.folder).timeout(time).join();
+        let connect = Reader::new(map).with_timeout(time).connect(..);
+        assert!(begun.elapsed() > time);
+        let errors = (join.unwrap_err(), connect.unwrap_err());
+        assert_eq!(errors.0.kind.to_string(), errors.1.kind.to_string());
+        errors.0.kind
+    };
+    let nothing = why(&elsewhere);
+    assert!(matches!(nothing, JoinErrorKind::NothingListens { .. }), "{nothing}");
+    let other = why(&of_another);
+    assert!(matches!(other, JoinErrorKind::OtherShard(_)), "{other}");
+}
+
 /// The lower half is where the whole was.
 #[test]
 fn a_reader_waits_for_the_next_map_where_it_comes_late() {
@@ -425,6 +488,23 @@ fn a_program_may_hand_over_each_next_map_itself() {
     assert_eq!(client.read(..).unwrap().len(), 2);
     client.change_map(first).unwrap();
     assert_eq!(client.map(), Some(world.map.clone()));
+}
+
+/// A call in a task has no thread that could wait for its deadline.
+#[test]
+fn a_task_gives_up_at_its_deadline_while_the_next_map_cannot_be_followed() {
+    let mut world = World::new("late", [10, 150]);
+    let client = Client::builder(world.map.clone(), 0, &world.folder).timeout(LONG).join().unwrap();
+    let place = world.new_place();
+    let next = world.map.split(50, place).unwrap();
+    std::fs::create_dir(world.folder.join("shard-50-client-0.lock")).unwrap();
+    client.change_map(next).unwrap_err();
+    let late = client.within(SHORT).read(10..20).unwrap_err();
+    assert_eq!(late.kind, ErrorKind::TimedOut);
+    let task = AsyncClient::from(client.within(SHORT));
+    let (done, ended) = mpsc::channel();
+    thread::spawn(move || done.send(block_on(task.read(10..20)).map_err(|error| error.kind)));
+    assert_eq!(ended.recv_timeout(LONG / 2), Ok(Err(ErrorKind::TimedOut)));
 }
 
 /// A client that does not follow the map keeps a change waiting no longer than its lease.

@@ -1,10 +1,11 @@
 //! Connections that stay open and carry nothing, as through a proxy or an address translator that
 //! has lost them, and connections that end before anything comes.
 
-use krl::{Address, Client, Leases, MemoryStore, Outcome, Server, Value};
+use krl::{Address, Client, ErrorKind, Leases, MemoryStore, Outcome, Server, Value};
 use krl_testing::relay::{Plan, Relay};
 use std::net::TcpListener;
 use std::path::PathBuf;
+use std::thread;
 use std::time::{Duration, Instant};
 
 /// How long a call waits: no connection that swallows is kept that long.
@@ -88,4 +89,23 @@ fn connections_that_end_before_anything_comes_cost_no_lease() {
     assert!(client.status()[0].lease_left.is_some_and(|left| left > Duration::ZERO));
     assert_eq!(world.relay.count(), 3);
     assert_eq!(world.server.status().connections, 1);
+}
+
+/// Reads that are not kept take turns. The first one waits until its connection counts as lost.
+#[test]
+fn a_read_that_is_not_kept_ends_at_its_deadline_next_to_a_longer_one() {
+    const SHORT: Duration = Duration::from_millis(300);
+    let world = World::new("turns", None);
+    let client = world.join();
+    assert_eq!(client.read_once(..), Ok(vec![]));
+    world.relay.swallow();
+    thread::scope(|scope| {
+        let longer = scope.spawn(|| client.read_once(..));
+        thread::sleep(SHORT);
+        let begun = Instant::now();
+        let late = client.within(SHORT).read_once(..).unwrap_err();
+        assert!(begun.elapsed() < SHORT * 10, "{:?}", begun.elapsed());
+        assert_eq!(late.kind, ErrorKind::TimedOut);
+        assert_eq!(longer.join().unwrap(), Ok(vec![]));
+    });
 }

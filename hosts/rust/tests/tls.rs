@@ -74,7 +74,10 @@ fn a_peer_without_a_certificate_is_rejected_at_once_and_sends_nothing() {
         assert_eq!(is_of_names, has_authority, "{what}: {error}");
     }
     let none = Client::builder(server.address(), 6, setup.lock(6)).join();
-    assert!(matches!(none.unwrap_err().kind, JoinErrorKind::TurnedAway(_)), "no certificate");
+    let error = none.unwrap_err();
+    assert!(matches!(error.kind, JoinErrorKind::TurnedAway(_)), "no certificate: {error}");
+    // Users of programs that have it choose no features of cargo.
+    assert!(error.to_string().ends_with("its key, and that of the authority"), "{error}");
     let status = settled(&server);
     assert_eq!((status.taken, status.changes), (0, 0));
 }

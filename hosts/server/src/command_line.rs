@@ -212,9 +212,11 @@ change, and their calls there wait. When all have left, the servers of these sha
 --stop, the stores are changed, and the servers are started again by --start and --start-new. All other
 servers and their clients continue. A store is a file of SQLite, or in etcd or PostgreSQL, as for serve.
 
-If it is killed, repeat it with the same arguments: it continues where it was. If clients have not
-left within --wait seconds, it names them and takes its first step back: the map is then as it was
-before, but its version is greater by two, and nothing has changed.")]
+If it is killed, repeat it with the same arguments: it continues where it was, whatever ran since. Until
+then other changes of the same shards are refused. With --undo it is given up, unless a store has
+changed. If it fails, as it does when clients have not left within --wait seconds, it takes back what it
+did, unless a store has changed: the map has the shards before, by a greater version, and --start starts
+the old servers.")]
     Reshard {
         #[command(subcommand)]
         change: Box<LiveChange>,
@@ -225,7 +227,8 @@ Put the map of a table into etcd or PostgreSQL, or follow it from there.
 
 Where a map is for many machines, reshard gives each next one to its home by --publish 'krl-server map
 put HOME \"$KRL_MAP\"', and on each machine krl-server map follow HOME FILE keeps a file, which its
-servers and clients follow. A map takes only the place of one of a lesser version.")]
+servers and clients follow. A map takes only the place of one of a lesser version, and in --publish only
+that of the one that reshard replaces.")]
     Map {
         #[command(subcommand)]
         command: MapCommand,

@@ -37,10 +37,10 @@ pub fn import(file: &Path, is_json: bool, place: &StorePlace, existing: Existing
 }
 
 fn into_store(path: &Path, lines: Vec<Line>, existing: Existing) -> Result<Added, Box<dyn Error>> {
-    let _owner = reshard::own(path)?;
-    let added = add(reshard::read(path)?, lines, existing)?;
+    let owner = reshard::own(path)?;
+    let added = add(reshard::read(owner.file())?, lines, existing)?;
     stores::judge(&path.display(), &added.store)?;
-    let mut file = SqliteStore::open(path).map_err(|error| cause(&error))?;
+    let mut file = SqliteStore::open(owner.file()).map_err(|error| cause(&error))?;
     file.load().map_err(|error| cause(&error))?;
     let rows = added.written.iter().map(|line| line.row);
     file.write_rows(rows).map_err(|error| cause(&error))?;

@@ -2,13 +2,17 @@
 //!
 //! Each step may be cut off: the same command continues from what it finds.
 //!
-//! 1. The next map takes the place of this one. Clients that follow it leave the shards that change,
-//!    and no client joins them: their servers are of shards that no later map has.
+//! 1. The next map takes the place of this one ([`crate::published_map`]). Clients that follow it leave
+//!    the shards that change, and no client joins them: their servers are of shards that no later map
+//!    has.
 //! 2. When all have left, the servers of these shards are stopped.
 //! 3. The stores change, as [`change`] describes: **no server can start on a new store while another
 //!    one can start on a store that has its rows.**
 //! 4. The servers of the next map's shards start.
+//!
+//! What fails before a store has changed is taken back, and the old servers start again.
 mod change;
+mod obstacles;
 mod stores;
 mod words;
 
@@ -16,12 +20,13 @@ use crate::clients;
 use crate::http::StatusPort;
 use crate::next_map;
 use crate::output;
-use crate::published_map::{PublishedMap, run};
-use crate::settings::{BadSetting, StorePlace};
+use crate::published_map::{MapFile, PublishedMap, run};
+use crate::settings::BadSetting;
 pub use change::Place;
-use change::{InUse, NewStore, OldStore};
+use change::{InUse, NewStore, OldStore, Unknown};
 use krl::{KeptShard, ShardBounds, ShardMap, Snapshot};
 use std::error::Error;
+use std::num::NonZeroU64;
 use std::thread;
 use std::time::{Duration, Instant};
 use stores::{Stores, json, served_by};
@@ -46,27 +51,105 @@ const START_OR_END: Duration = Duration::from_secs(60);
 #[derive(Debug)]
 struct Stay(String);
 
-/// Changes the shards.
+/// Changes the shards, or takes back what was begun.
 pub fn reshard(change: &LiveChange) -> Done {
     let live = change.live();
-    let map = PublishedMap::of(&live.map, live.publish.as_deref(), |map| change.next_of(map))?;
-    let stores = change.stores(&map)?;
-    stores.refuse_others()?;
-    map.publish()?;
-    output::report(&format!("the map is of version {}", version_of(&map.next)));
-    if stores.have_changed()? {
-        // An earlier call has changed the stores, and may have been killed.
-        open_new(change, &stores)?;
-    } else {
-        change_stores(change, &map, &stores)?;
-    }
-    start_servers(change, &stores)?;
-    let done = format!("{}: version {} is served\n", live.map.display(), version_of(&map.next));
-    Ok(output::print_done(&done)?)
+    let file = MapFile::lock(&live.map, live.publish.as_deref(), change.words())?;
+    let version = if live.undo { undo(change, file)? } else { make(change, file)? };
+    let done = if live.undo { "as before the change" } else { "is served" };
+    let map = live.map.display();
+    Ok(output::print_done(&format!("{map}: version {version} {done}\n"))?)
 }
 
-fn version_of(map: &ShardMap) -> u64 {
-    map.version().map_or(0, u64::from)
+/// Changes the shards. Returns the version of the map.
+fn make(change: &LiveChange, file: MapFile) -> Done<NonZeroU64> {
+    let mut map = file.change(&change.keys(), |map| change.next_of(map))?;
+    let stores = change.stores(&map)?;
+    stores.refuse_others()?;
+    if !stores.have_begun_to_change()? {
+        obstacles::refuse(change.live(), &stores.new)?;
+    }
+    map.begin()?;
+    make_begun(change, &map, &stores)
+        .map_err(|why| given_up(&change.live().start, &mut map, &stores, why.as_ref()))?;
+    map.end()
+}
+
+fn make_begun(change: &LiveChange, map: &PublishedMap, stores: &Stores<'_>) -> Done {
+    let version = map.publish()?;
+    output::report(&format!("the map is of version {version}"));
+    if stores.have_changed()? {
+        // An earlier call has changed the stores, and may have been killed.
+        stores.open_new(|| stop_servers(change, stores))?;
+    } else {
+        change_stores(change, stores)?;
+    }
+    start_servers(change, stores)
+}
+
+/// Takes back what can be taken back of a change that has failed. Returns why it has, and what is
+/// served.
+fn given_up(
+    start: &str,
+    map: &mut PublishedMap,
+    stores: &Stores<'_>,
+    why: &(dyn Error + 'static),
+) -> String {
+    // A database may commit what was sent before, by this command or an earlier one.
+    let is_known = stores.are_files() || (map.is_new() && !why.is::<Unknown>());
+    let undo = "or give it up by the same command with --undo";
+    let left = match stores.have_begun_to_change() {
+        Ok(false) if is_known => match take_back(start, map) {
+            Ok(version) => format!(
+                "Nothing has changed, and the old servers serve: the map is what it was, by version \
+                 {version}, with {}. Repeat the command when that is mended",
+                map.shown_before()
+            ),
+            Err(not) => format!(
+                "No store has changed, but not all could be taken back: {not}. Repeat the command when \
+                 that is mended, {undo}"
+            ),
+        },
+        Ok(true) => {
+            start_remaining(start, stores);
+            format!(
+                "The stores have begun to change, so keys of {} are not served until the command is \
+                 repeated and ends well",
+                map.shown_before()
+            )
+        }
+        _ => format!("Whether a store has changed is not known: repeat the command, {undo}"),
+    };
+    format!("{why}. {left}")
+}
+
+/// Puts the shards before into the map again, and starts their servers in any case. Returns its version.
+fn take_back(start: &str, map: &mut PublishedMap) -> Done<NonZeroU64> {
+    let (taken_back, started) = (map.take_back(), run(start));
+    let version = taken_back?;
+    started.map_err(|why| format!("the map is what it was, by version {version}, but {why}"))?;
+    map.forget()?;
+    Ok(version)
+}
+
+/// Starts the servers of the old stores, if one of them keeps a shard.
+fn start_remaining(start: &str, stores: &Stores<'_>) {
+    if stores.old.iter().any(|old| !old.after.is_sealed)
+        && let Err(why) = run(start)
+    {
+        output::report(&why.to_string());
+    }
+}
+
+/// Takes back what an earlier command has begun. Returns the version of the map.
+fn undo(change: &LiveChange, file: MapFile) -> Done<NonZeroU64> {
+    let mut map = file.begun()?;
+    let stores = change.stores(&map)?;
+    if !stores.stay_unchanged(|| stop_servers(change, &stores))? {
+        let why = "a store has changed already, so the change can't be taken back";
+        return Err(format!("{why}: repeat the command without --undo").into());
+    }
+    take_back(&change.live().start, &mut map)
 }
 
 impl LiveChange {
@@ -91,9 +174,10 @@ impl LiveChange {
 
     /// The stores, and what they are before and after the change.
     fn stores(&self, map: &PublishedMap) -> Done<Stores<'_>> {
-        let before = |point: u64| next_map::bounds(&map.before, map.before.shard_of(point).ok());
-        let next = |point: u64| next_map::bounds(&map.next, map.next.shard_of(point).ok());
-        let version = map.next.version().ok_or("the map has no version")?;
+        let (map_before, map_next) = (map.before(), map.next());
+        let before = |point: u64| next_map::bounds(map_before, map_before.shard_of(point).ok());
+        let next = |point: u64| next_map::bounds(map_next, map_next.shard_of(point).ok());
+        let version = map_next.version().ok_or("the map has no version")?;
         let sealed = |place, before: ShardBounds| {
             let after = KeptShard::sealed(before.with_version(version));
             OldStore { place, before, after }
@@ -147,7 +231,7 @@ impl LiveChange {
 }
 
 /// Changes the stores once all clients have left.
-fn change_stores(change: &LiveChange, map: &PublishedMap, stores: &Stores<'_>) -> Done {
+fn change_stores(change: &LiveChange, stores: &Stores<'_>) -> Done {
     let LiveOptions { start, wait, .. } = change.live();
     let end = Instant::now() + Duration::from_secs(*wait);
     loop {
@@ -160,7 +244,7 @@ fn change_stores(change: &LiveChange, map: &PublishedMap, stores: &Stores<'_>) -
             },
         };
         if Instant::now() >= end {
-            return give_up(&who, *wait, map, stores);
+            return Err(format!("{who}: not left within {wait} seconds").into());
         }
         thread::sleep(AGAIN);
     }
@@ -172,12 +256,6 @@ fn change_stopped(change: &LiveChange, stores: &Stores<'_>) -> Done {
     stores.change(|old| change.content(old))
 }
 
-/// Opens the new store. If it is not the one that was made of the old ones, these serve again.
-fn open_new(change: &LiveChange, stores: &Stores<'_>) -> Done {
-    let opened = stores.open_new(|| stop_servers(change, stores));
-    opened.inspect_err(|error| drop(start_again(&change.live().start, &error.to_string())))
-}
-
 /// Starts the old servers, so that the clients that have not left can. Returns which these are.
 fn start_again(start: &str, who: &str) -> String {
     output::report(who);
@@ -185,17 +263,6 @@ fn start_again(start: &str, who: &str) -> String {
         output::report(&error.to_string());
     }
     who.into()
-}
-
-/// Takes the map back, since clients do not leave, unless a store has changed already.
-fn give_up(who: &str, wait: u64, map: &PublishedMap, stores: &Stores<'_>) -> Done {
-    let late = format!("{who}: not left within {wait} seconds");
-    if stores.have_begun_to_change()? {
-        return Err(format!("{late}. An old store is sealed already: repeat the command").into());
-    }
-    let version = map.take_back()?;
-    let what = "nothing has changed, and the map is what it was, by version";
-    Err(format!("{late}: {what} {version}").into())
 }
 
 /// Waits until no client is at the servers. One that does not answer has none, or is down: its store
@@ -231,15 +298,18 @@ fn clients_of(port: &StatusPort) -> Option<String> {
 /// still runs over a database commits nothing any more once the command has taken the store.
 fn stop_servers(change: &LiveChange, stores: &Stores<'_>) -> Done {
     let served = || stores.old.iter().find_map(|old| served_by(old.place));
-    let are_files = stores.old.iter().all(|old| matches!(old.place, StorePlace::File(_)));
-    if are_files && served().is_none() {
+    if stores.are_files() && served().is_none() {
         return Ok(());
     }
     run(&change.live().stop)?;
-    let end = Instant::now() + START_OR_END;
+    let (begun, mut is_reported) = (Instant::now(), false);
     while let Some(by) = served() {
-        if Instant::now() >= end {
+        if begun.elapsed() >= START_OR_END {
             return Err(format!("--stop has ended, and {by} serves still").into());
+        }
+        if begun.elapsed() >= REPORT && !is_reported {
+            output::report(&format!("waits for the end of {by}, which --stop has to stop"));
+            is_reported = true;
         }
         thread::sleep(LOOK);
     }

@@ -2,7 +2,7 @@
 //! servers and clients follow.
 use crate::next_map;
 use crate::output;
-use crate::published_map;
+use crate::replaced_file::NextFile;
 use crate::serve::Unanswered;
 use crate::settings::StorePlace;
 use crate::{cause, stand_by};
@@ -11,6 +11,7 @@ use krl::{ShardMap, StoreError};
 use krl_etcd::{Credentials, EtcdMap};
 use krl_postgres::PostgresMap;
 use std::error::Error;
+use std::io;
 use std::path::{Path, PathBuf};
 use std::thread;
 use std::time::Duration;
@@ -33,6 +34,10 @@ pub enum MapCommand {
         home: StorePlace,
         /// The file
         file: PathBuf,
+        /// The map that stands there, which has to be the one of this file. reshard gives the one that
+        /// it replaces to its --publish, so that nobody else's map is lost
+        #[arg(long, value_name = "FILE", env = "KRL_MAP_BEFORE")]
+        before: Option<PathBuf>,
     },
     /// Write each later map from there to a file, which servers and clients of this machine follow,
     /// until a signal comes
@@ -62,7 +67,7 @@ pub enum WatchedMap {
 impl MapCommand {
     pub fn run(&self) -> Done {
         match self {
-            MapCommand::Put { home, file } => put(home, file),
+            MapCommand::Put { home, file, before } => put(home, file, before.as_deref()),
             MapCommand::Follow { home, file, once: true } => {
                 let mut found = Home::of_command(home)?;
                 let text = found.read().map_err(|error| format!("{home}: {}", cause(&error)))?;
@@ -73,20 +78,39 @@ impl MapCommand {
     }
 }
 
-/// Puts the map of the file in the place of an earlier one.
-fn put(home: &StorePlace, file: &Path) -> Done {
+/// Puts the map of the file in the place of an earlier one, which may have to be that of a file.
+fn put(home: &StorePlace, file: &Path, replaced: Option<&Path>) -> Done {
     let next = next_map::read(file)?;
     let mut found = Home::of_command(home)?;
     let fails = |error: StoreError| format!("{home}: {}", cause(&error));
     let before = found.read().map_err(fails)?;
     let earlier = before.as_deref().map(ShardMap::from_toml).transpose()?;
     let version = version_of(&next);
-    if is_next(earlier.as_ref(), &next).map_err(|why| format!("{home} {why}"))?
-        && !found.replace(before.as_deref(), &next.to_toml()).map_err(fails)?
-    {
-        return Err(format!("another map was put to {home} meanwhile: repeat the command").into());
+    if is_next(earlier.as_ref(), &next).map_err(|why| format!("{home} {why}"))? {
+        refuse_other(home, earlier.as_ref(), replaced)?;
+        if !found.replace(before.as_deref(), &next.to_toml()).map_err(fails)? {
+            let why = format!("another map was put to {home} meanwhile: repeat the command");
+            return Err(why.into());
+        }
     }
     Ok(output::print_done(&format!("{home}: the map of version {version}\n"))?)
+}
+
+/// Refuses to replace a map that is not the one of this file.
+fn refuse_other(home: &StorePlace, earlier: Option<&ShardMap>, replaced: Option<&Path>) -> Done {
+    let (Some(earlier), Some(replaced)) = (earlier, replaced) else { return Ok(()) };
+    let expected = next_map::read(replaced)?;
+    if expected == *earlier {
+        return Ok(());
+    }
+    let (version, file) = (version_of(earlier), replaced.display());
+    let how = if earlier.version() < expected.version() {
+        format!("put the one in the file there by 'krl-server map put {home} {file}'")
+    } else {
+        format!("take it by 'krl-server map follow {home} {file} --once'")
+    };
+    let why = format!("{home} has a map of version {version}, which is not the one in {file}");
+    Err(format!("{why}: {how}, and repeat the command").into())
 }
 
 /// Whether a map has to take the place of an earlier one: it does not if it is the same one.
@@ -104,17 +128,13 @@ fn is_next(earlier: Option<&ShardMap>, next: &ShardMap) -> Result<bool, String> 
 
 /// Writes each next map to the file, as long as the process runs.
 fn follow(place: &StorePlace, file: &Path) -> Done {
-    let (mut taken, mut unanswered) = (None, Unanswered::default());
+    let mut unanswered = Unanswered::default();
     let mut home = Home::of_command(place)?;
     loop {
         let why = match home.read() {
-            Ok(found) if found == taken => {
-                home.wait(WAIT);
-                continue;
-            }
             Ok(found) => match found.as_deref().map_or(Ok(()), |text| take(text, file)) {
                 Ok(()) => {
-                    taken = found;
+                    home.wait(WAIT);
                     continue;
                 }
                 Err(why) => why.to_string(),
@@ -132,7 +152,9 @@ fn take(text: &str, file: &Path) -> Done {
     let next = ShardMap::from_toml(text)?;
     let earlier = ShardMap::from_file(file).ok();
     if is_next(earlier.as_ref(), &next).map_err(|why| format!("{} {why}", file.display()))? {
-        published_map::replace(file, &next)?;
+        let fails = |error: io::Error| format!("{} can't be written: {error}", file.display());
+        let written = NextFile::write(file, &next.to_toml()).and_then(NextFile::take_its_place);
+        written.map_err(fails)?;
         output::report(&format!("{}: the map of version {}", file.display(), version_of(&next)));
     }
     Ok(())

@@ -1,4 +1,5 @@
 //! The map after a split or a merge, as a file.
+use crate::replaced_file::sync_folder_of;
 use clap::Args;
 use krl::{Address, KeptShard, Servers, Shard, ShardBounds, ShardMap, Snapshot};
 use std::error::Error;
@@ -184,7 +185,8 @@ fn write(path: &Path, text: &str) -> io::Result<()> {
     let mut options = OpenOptions::new();
     let mut file = options.write(true).create(true).truncate(false).open(path)?;
     file.write_all(text.as_bytes())?;
-    file.sync_all()
+    file.sync_all()?;
+    sync_folder_of(path)
 }
 
 /// What the shard of this number has, if the map has such a shard.

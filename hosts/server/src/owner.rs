@@ -1,5 +1,8 @@
-//! Who serves a store, as stated in a file next to it.
-use std::ffi::OsString;
+//! Who serves a store, or changes a map, as stated in a file next to it.
+use crate::cause;
+use crate::replaced_file::beside;
+use krl::StoreError;
+use krl::operate::store_file;
 use std::fmt;
 use std::fs::{File, OpenOptions, TryLockError};
 use std::io::{self, Read, Seek, SeekFrom, Write};
@@ -7,20 +10,23 @@ use std::path::{Path, PathBuf};
 use std::thread;
 use std::time::{Duration, Instant};
 
-/// The right to serve a store. Another process may take it when this value is gone, or the process
-/// is. The file stays, and states who served last.
+/// The right to serve a store, or to change a map. Another process may take it when this value is
+/// gone, or the process is. The file stays, and states who had it last.
 #[derive(Debug)]
 pub struct Owner {
-    _file: File,
+    file: PathBuf,
+    _lock: File,
 }
 
-/// Why a store can't be served.
+/// Why a store can't be served, or a map changed.
 #[derive(Debug)]
 pub enum NotOwned {
-    /// Another process serves it.
-    Served { store: PathBuf, by: String },
+    /// Another process does so.
+    Owned { what: String, by: String },
     /// The file next to it can't be used.
     File { path: PathBuf, error: io::Error },
+    /// Its name means no file of its own.
+    Name { store: PathBuf, error: StoreError },
 }
 
 /// How long a server waits for a process that only looks whether the store is served.
@@ -32,21 +38,36 @@ const MAX_LINE: u64 = 1000;
 impl Owner {
     /// Takes the right to serve the store, and writes the holder into the file next to it.
     pub fn take(store: &Path, address: &dyn fmt::Display) -> Result<Owner, NotOwned> {
-        let path = path_of(store);
+        let named = |error| NotOwned::Name { store: store.to_path_buf(), error };
+        let what = format!("the store {} is served", store.display());
+        Owner::lock(store_file(store).map_err(named)?, what, &format_args!("at {address}"))
+    }
+
+    /// Takes the right to change the map, in the same way.
+    pub fn of_map(map: &Path, change: &dyn fmt::Display) -> Result<Owner, NotOwned> {
+        Owner::lock(map.into(), format!("the map {} is changed", map.display()), change)
+    }
+
+    fn lock(file: PathBuf, what: String, note: &dyn fmt::Display) -> Result<Owner, NotOwned> {
+        let path = path_of(&file);
         let fails = |error| NotOwned::File { path: path.clone(), error };
         let mut options = OpenOptions::new();
         options.read(true).write(true).create(true).truncate(false);
-        let mut file = options.open(&path).map_err(fails)?;
-        match lock_within(&file, LOOKS) {
+        let mut lock = options.open(&path).map_err(fails)?;
+        match lock_within(&lock, LOOKS) {
             Ok(()) => {}
             Err(TryLockError::WouldBlock) => {
-                let store = store.to_path_buf();
-                return Err(NotOwned::Served { store, by: line_of(&file) });
+                return Err(NotOwned::Owned { what, by: line_of(&lock) });
             }
             Err(TryLockError::Error(error)) => return Err(fails(error)),
         }
-        note(&mut file, address).map_err(fails)?;
-        Ok(Owner { _file: file })
+        write_note(&mut lock, note).map_err(fails)?;
+        Ok(Owner { file, _lock: lock })
+    }
+
+    /// The file, by its own path: a link that has led to it may lead to another one by now.
+    pub fn file(&self) -> &Path {
+        &self.file
     }
 }
 
@@ -63,25 +84,24 @@ fn lock_within(file: &File, patience: Duration) -> Result<(), TryLockError> {
     }
 }
 
-/// The process that serves the store now, if one does.
+/// The process that serves the store now, if one does. A name that means no store of its own is
+/// refused where the store is opened.
 pub fn served_by(store: &Path) -> Option<String> {
-    let file = File::open(path_of(store)).ok()?;
+    let file = File::open(path_of(&store_file(store).ok()?)).ok()?;
     match file.try_lock_shared() {
         Err(TryLockError::WouldBlock) => Some(line_of(&file)),
         _ => None,
     }
 }
 
-fn path_of(store: &Path) -> PathBuf {
-    let mut name = OsString::from(store);
-    name.push(".lock");
-    name.into()
+fn path_of(file: &Path) -> PathBuf {
+    beside(file, ".lock")
 }
 
-fn note(file: &mut File, address: &dyn fmt::Display) -> io::Result<()> {
+fn write_note(file: &mut File, note: &dyn fmt::Display) -> io::Result<()> {
     file.set_len(0)?;
     file.seek(SeekFrom::Start(0))?;
-    writeln!(file, "process {}, at {address}", std::process::id())
+    writeln!(file, "process {}, {note}", std::process::id())
 }
 
 /// The content of the file, if there is any.
@@ -98,11 +118,12 @@ fn line_of(file: &File) -> String {
 impl fmt::Display for NotOwned {
     fn fmt(&self, f: &mut fmt::Formatter<'_>) -> fmt::Result {
         match self {
-            NotOwned::Served { store, by } => {
-                write!(f, "the store {} is served already, by {by}", store.display())
-            }
+            NotOwned::Owned { what, by } => write!(f, "{what} already, by {by}"),
             NotOwned::File { path, error } => {
                 write!(f, "the lock file {} can't be used: {error}", path.display())
+            }
+            NotOwned::Name { store, error } => {
+                write!(f, "the store {} can't be used: {}", store.display(), cause(error))
             }
         }
     }
@@ -134,6 +155,17 @@ mod tests {
         let line = std::fs::read_to_string(path_of(&store)).unwrap();
         assert_eq!(line, format!("process {}, at x\n", std::process::id()));
         assert!(Owner::take(&folder.path().join("none/krl.db"), &"x").is_err());
+    }
+
+    #[test]
+    fn one_change_of_a_map_at_a_time() {
+        let folder = tempfile::tempdir().unwrap();
+        let map = folder.path().join("map.toml");
+        let _owner = Owner::of_map(&map, &"split a.db 5 b.db").unwrap();
+        let refused = Owner::of_map(&map, &"merge a.db b.db c.db").unwrap_err().to_string();
+        let by =
+            format!("is changed already, by process {}, split a.db 5 b.db", std::process::id());
+        assert!(refused.ends_with(&by), "{refused}");
     }
 
     #[test]

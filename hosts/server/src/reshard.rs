@@ -35,8 +35,8 @@ pub fn split(
     is_empty_allowed: bool,
     map: &SplitMap,
 ) -> Done<DoneByMap> {
-    let _owner = own(store)?;
-    let kept = read_file(store)?;
+    let owner = own(store)?;
+    let kept = read_file(owner.file())?;
     let own_shard = kept.snapshot.shard;
     let earlier = moved_by_an_earlier_split(&kept, at, new);
     let is_cut = earlier.is_some();
@@ -63,7 +63,7 @@ pub fn split(
     stores::judge(&store.display(), &lower)?;
     stores::judge(&new.display(), &upper)?;
     create(new, &upper)?;
-    cut_off(store, at, &upper, lower.shard).map_err(|error| {
+    cut_off(owner.file(), at, &upper, lower.shard).map_err(|error| {
         format!("{} may have all its rows still: {error}. Split it again", store.display())
     })?;
     unseal(new)?;
@@ -101,8 +101,8 @@ fn rejoined(lower: &Snapshot, at: u64, upper: &Snapshot) -> Option<Snapshot> {
 /// server starts on them any more once the new store is there, and none on the new one before both
 /// are sealed.
 pub fn merge(lower: &Path, upper: &Path, new: &Path, map: &MergeMap) -> Done<DoneByMap> {
-    let _owners = (own(lower)?, own(upper)?);
-    let (below, from) = (read_file(lower)?, read_file(upper)?);
+    let owners = (own(lower)?, own(upper)?);
+    let (below, from) = (read_file(owners.0.file())?, read_file(owners.1.file())?);
     // Before both are sealed, no server can have started on a new store.
     if is_sealed(&below) && is_sealed(&from) {
         refuse_second(lower, &below, new)?;
@@ -123,8 +123,8 @@ pub fn merge(lower: &Path, upper: &Path, new: &Path, map: &MergeMap) -> Done<Don
     create(new, &whole)?;
     if let Some(shards) = &shards {
         let [below, from] = shards.sealed();
-        seal(lower, below, &whole)?;
-        seal(upper, from, &whole)?;
+        seal(owners.0.file(), below, &whole)?;
+        seal(owners.1.file(), from, &whole)?;
     }
     unseal(new)?;
     let (rows, epoch) = (whole.rows.len(), whole.epoch);

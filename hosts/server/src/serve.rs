@@ -116,8 +116,8 @@ fn serve_file(
     // Next to a file of another program, and where there is none, no lock file is left.
     new_store::judge_file(path, settings.may_make_store).map_err(fails)?;
     SqliteStore::judge_first_bytes(path).map_err(fails)?;
-    let _owner = Owner::take(path, &settings.listen)?;
-    let store = SqliteStore::open_with(path, settings.store_writes).map_err(fails)?;
+    let owner = Owner::take(path, &settings.listen)?;
+    let store = SqliteStore::open_with(owner.file(), settings.store_writes).map_err(fails)?;
     serve_store(settings, store, access, signal, role)
 }
 

@@ -2,7 +2,7 @@
 use crate::live_reshard::Place;
 use crate::output;
 use crate::owner::Owner;
-use crate::published_map::beside;
+use crate::replaced_file::beside;
 use crate::settings::StorePlace;
 use crate::{cause, owner, reshard, stand_by};
 use krl::operate::StoreFile;
@@ -96,7 +96,8 @@ impl Place for StorePlace {
         let (store, owner): (Result<Box<dyn Store>, StoreError>, _) = match self {
             StorePlace::File(path) => {
                 let owner = reshard::own(path)?;
-                (SqliteStore::open(path).map(|store| Box::new(store) as _), Some(owner))
+                let store = SqliteStore::open(owner.file());
+                (store.map(|store| Box::new(store) as _), Some(owner))
             }
             StorePlace::Etcd(address) => {
                 let store = EtcdStore::open(address, &stand_by::credentials_of_environment());
@@ -112,7 +113,7 @@ impl Place for StorePlace {
     }
 
     fn create(&self, snapshot: &Snapshot) -> Done {
-        create(self, snapshot)
+        create(self, snapshot).map_err(|error| format!("{self} can't be made: {error}").into())
     }
 
     fn clear(&self, unused: &ShardBounds) -> Done {
@@ -137,6 +138,7 @@ impl Place for StorePlace {
 /// Gives a file another name if it is a sealed store of these keys. It is not removed, since only the
 /// operator knows whether it is needed.
 pub fn set_unused_aside(store: &Path, keys: &Range<u64>) -> Done {
+    let store = &krl::operate::store_file(store).map_err(|error| unreadable(store, &error))?;
     if !store.exists() {
         return Ok(());
     }

@@ -334,7 +334,7 @@ fn a_store_that_has_moved_is_made_once() {
         &["a"],
         "c",
     ));
-    assert!(why.contains("can't be read") || why.contains("is not the store"), "{why}");
+    assert!(why.contains("has shard 0 in the map"), "{why}");
     assert!(!world.path("c.db").exists());
 }
 
@@ -342,21 +342,20 @@ fn a_store_that_has_moved_is_made_once() {
 fn another_store_is_not_opened_while_the_old_one_is_served() {
     let mut world = World::new(&FILES, [10, 20]);
     run(&mut world.split("a", 20, "b"));
+    world.stop("b");
+    world.rename("b.db", "kept.db");
     let unused = Snapshot {
         rows: [(20, Value::from(1))].into(),
         shard: Some("20..@2 sealed".parse().unwrap()),
         first_start: Some(7),
         ..Snapshot::default()
     };
-    world.create("c", &unused);
-    let servers = world.address("b");
-    let why = refused(&mut world.reshard(
-        &["split", "a.db", "20", "c.db", "--servers", &servers],
-        &["a"],
-        "c",
-    ));
+    world.create("b", &unused);
+    let why = refused(&mut world.split("a", 20, "b"));
     assert!(why.contains("is not the store that was made of them"), "{why}");
+    assert_eq!(world.kept(&["b"]), ["20..@2 sealed"]);
+    world.rename("b.db", "unused.db");
+    world.rename("kept.db", "b.db");
+    run(&mut world.split("a", 20, "b"));
     assert_eq!(world.join(1).read(..).unwrap().len(), 2);
-    world.stop_all();
-    assert_eq!(world.kept(&["c"]), ["20..@2 sealed"]);
 }

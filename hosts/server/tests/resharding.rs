@@ -1,9 +1,10 @@
 //! A full store is cut in two, served by two servers, and made one again.
 mod common;
 
-use common::{Serving, errors, run, text};
+use common::{Serving, errors, output_unless_it_serves, program, run, text};
 use krl::{Client, Outcome, Record, Room, Row, Shard, ShardMap, Snapshot};
 use krl::{SqliteStore, Value};
+use std::os::unix::fs::symlink;
 use std::path::Path;
 use std::time::Duration;
 
@@ -101,6 +102,59 @@ fn a_full_server_is_split_and_its_clients_go_on() {
     assert!(check.contains("rows: 65539\nroom: 65539\n"), "{check}");
     assert!(check.contains("a server can start on it\n"), "{check}");
     drop(Serving::start(&whole));
+}
+
+/// The store and its log lie where a link leads. What is only in the log counts by each name.
+#[test]
+fn a_store_that_is_named_by_a_link_is_split_with_all_that_it_has() {
+    let folder = tempfile::tempdir().unwrap();
+    let path = |name: &str| folder.path().join(name);
+    std::fs::create_dir(path("disk")).unwrap();
+    let [store, link, upper] = ["disk/krl.db", "krl.db", "upper.db"].map(path);
+    let [store_name, link_name, upper_name] =
+        [&store, &link, &upper].map(|path| path.to_str().unwrap());
+    symlink("disk/krl.db", &link).unwrap();
+    let serving = Serving::start(&link);
+    assert!(store.exists() && path("disk/krl.db.lock").exists() && !path("krl.db.lock").exists());
+    let client = serving.join(folder.path(), 1);
+    for key in 1..6 {
+        assert_eq!(client.insert(key, Value::from(key)), Ok(Outcome::Applied));
+    }
+    client.leave().unwrap();
+    for name in [store_name, link_name] {
+        for words in [&["export", name][..], &["check", name], &["split", name, "2", upper_name]] {
+            let refused = run(words);
+            assert_eq!(refused.status.code(), Some(1));
+            assert!(errors(&refused).contains("served"), "{words:?}: {}", errors(&refused));
+        }
+    }
+    serving.signal(&["KILL"]);
+    serving.ended();
+    assert!(std::fs::metadata(path("disk/krl.db-wal")).unwrap().len() > 0);
+    assert!(text(&run(&["check", link_name])).contains("rows: 5\n"));
+    assert_eq!(text(&run(&["export", link_name])).lines().count(), 6, "a head and five rows");
+    let split = run(&["split", link_name, "2", upper_name]);
+    assert!(text(&split).contains("1 rows below 2"), "{split:?}");
+    assert!(text(&split).contains("4 rows from 2 on"), "{split:?}");
+    let rows = |store: &Path| SqliteStore::read(store).unwrap().snapshot.rows.len();
+    assert_eq!([&store, &upper].map(|store| rows(store)), [1, 4]);
+}
+
+#[test]
+fn a_store_with_two_hard_links_is_refused_by_each() {
+    let folder = tempfile::tempdir().unwrap();
+    let [store, other] = ["krl.db", "other.db"].map(|name| folder.path().join(name));
+    drop(Serving::start(&store));
+    std::fs::hard_link(&store, &other).unwrap();
+    for name in [&store, &other].map(|path| path.to_str().unwrap()) {
+        let address = "127.0.0.1:0";
+        let serve = ["serve", "--store", name, "--listen", address, "--status", address];
+        for words in [&serve[..], &["export", name], &["split", name, "2", "upper.db"]] {
+            let refused = output_unless_it_serves(program().args(words));
+            assert_eq!(refused.status.code(), Some(1));
+            assert!(errors(&refused).contains("by a hard link"), "{words:?}: {refused:?}");
+        }
+    }
 }
 
 /// Which shard the store is of.

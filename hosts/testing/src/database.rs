@@ -28,6 +28,42 @@ pub struct Database {
 /// How many statements wait for a lock.
 const WAITING: &str = "SELECT count(*) FROM pg_stat_activity WHERE wait_event_type = 'Lock'";
 
+/// Functions, types and operators with names of PostgreSQL's own, which fail. They are called instead
+/// of these by a role whose search path is `public, pg_catalog`, and some of them by any role.
+pub const TRAPS: &str = "
+    DO $do$
+    DECLARE
+        trap text := $$ LANGUAGE plpgsql AS
+            'BEGIN RAISE EXCEPTION ''something of others was called''; END' $$;
+        asked text;
+        sides text;
+    BEGIN
+        FOREACH asked IN ARRAY ARRAY['unnest(integer[]) RETURNS SETOF integer',
+            'unnest(bigint[]) RETURNS SETOF bigint', 'unnest(text[]) RETURNS SETOF text',
+            'unnest(name[]) RETURNS SETOF name', 'quote_ident(name) RETURNS text',
+            'quote_ident(text) RETURNS text', 'format(text, name, name) RETURNS text',
+            'current_setting(text) RETURNS text', 'to_regclass(text) RETURNS regclass',
+            'unnest(bytea[]) RETURNS SETOF bytea', 'repeat(text, integer) RETURNS text',
+            'pg_advisory_xact_lock(bigint) RETURNS void']
+        LOOP
+            EXECUTE 'CREATE FUNCTION public.' || asked || trap;
+        END LOOP;
+        FOREACH sides IN ARRAY ARRAY['oid, oid', 'oid, regclass', 'name, name', 'uuid, uuid',
+            'varchar, varchar', 'varchar, text', 'text, text', 'integer, bigint', 'bigint, bigint',
+            'integer, integer', 'boolean, boolean']
+        LOOP
+            EXECUTE 'CREATE FUNCTION public.compare(' || sides || ') RETURNS boolean' || trap;
+            FOREACH asked IN ARRAY ARRAY['=', '>=', '<=']
+            LOOP
+                EXECUTE pg_catalog.format('CREATE OPERATOR public.%s (LEFTARG = %s, RIGHTARG = %s,
+                    FUNCTION = public.compare)', asked, split_part(sides, ', ', 1),
+                    split_part(sides, ', ', 2));
+            END LOOP;
+        END LOOP;
+    END $do$;
+    CREATE DOMAIN public.uuid AS pg_catalog.uuid CHECK (false);
+    CREATE DOMAIN public.text AS pg_catalog.text CHECK (false);";
+
 static COUNT: AtomicU32 = AtomicU32::new(0);
 
 impl Database {

@@ -2,8 +2,9 @@
 //! of krl that takes back what the test names.
 #![allow(dead_code, reason = "each test uses a part of it")]
 use krl::{Client, MemoryStore, Outcome, Server, Value};
-use krl_cache::{Cache, Row, Table};
+use krl_cache::{Cache, CacheBuilder, Row, Table};
 use krl_testing::database::{Database, Sql};
+use std::collections::BTreeSet;
 use std::io::{BufRead, Write};
 use std::net::TcpListener;
 use std::ops::Range;
@@ -108,13 +109,34 @@ impl Site {
 
     /// A cache of the database.
     pub fn cache(&self) -> Cache {
-        self.cache_of(64 << 20)
+        self.builder().open().unwrap()
     }
 
     /// One that keeps this many bytes.
     pub fn cache_of(&self, memory: usize) -> Cache {
+        self.builder().memory(memory).open().unwrap()
+    }
+
+    /// One whose settings are still to be changed.
+    pub fn builder(&self) -> CacheBuilder {
         let builder = Cache::builder(self.database.address(), self.folder.join("locks"));
-        builder.memory(memory).timeout(LONG).open().unwrap()
+        builder.timeout(LONG)
+    }
+
+    /// A cache of a role that is no superuser. It may select from the tables that are there now.
+    pub fn cache_of_role(&self, role: &str, timeout: Duration) -> Cache {
+        self.sql.run(&format!(
+            "CREATE ROLE {role} LOGIN; GRANT USAGE ON SCHEMA krl TO {role};
+             GRANT SELECT ON ALL TABLES IN SCHEMA krl, public TO {role}"
+        ));
+        let builder = Cache::builder(self.database.address(), self.folder.join("locks"));
+        builder.user(role, "").timeout(timeout).open().unwrap()
+    }
+
+    /// The processes of the database that work for a role.
+    pub fn processes_of(&self, role: &str) -> BTreeSet<i32> {
+        let all = format!("SELECT pid FROM pg_stat_activity WHERE usename = '{role}'");
+        self.sql.query(&all).iter().map(|row| row.get(0)).collect()
     }
 
     /// Changes rows of what these keys of krl guard, as a transaction does next to the extension.

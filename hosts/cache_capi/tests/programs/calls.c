@@ -155,9 +155,10 @@ static void packed_rows(void) {
 static void errors(void) {
     krlcache_table *none = items;
     EXPECT(KRLCACHE_NOT_CACHED, krlcache_table_open(cache, "plain", &none, &error));
-    WANT(none == NULL && error.code == KRLCACHE_NOT_CACHED && reports("the table plain is not cached"));
+    WANT(none == NULL && error.code == KRLCACHE_NOT_CACHED && reports("plain is not cached"));
+    WANT(strcmp(error.sqlstate, "") == 0);
     EXPECT(KRLCACHE_DATABASE, krlcache_table_open(cache, "missing", &none, &error));
-    WANT(reports("relation \"missing\" does not exist"));
+    WANT(reports("relation \"missing\" does not exist") && strcmp(error.sqlstate, "42P01") == 0);
     krlcache_value lamp = text("lamp"), both[] = {integer(3), integer(4)};
     EXPECT(KRLCACHE_BAD_KEY, krlcache_get(items, &lamp, 1, rows, &error));
     WANT(reports("the key lamp is not one of public.item: expected an integer"));
@@ -171,6 +172,7 @@ static void what_was_done(void) {
     EXPECT(KRLCACHE_OK, krlcache_statistics_of(items, &counted, &error));
     WANT(counted.hits > 0 && counted.misses > 0 && counted.kept > 0 && counted.keys > 0 && counted.bytes > 0);
     EXPECT(KRLCACHE_OK, krlcache_fault(cache, &error));
+    EXPECT(KRLCACHE_OK, krlcache_table_fault(items, &error));
 }
 
 /* The database answers while krl is away. */
@@ -187,6 +189,7 @@ static void krl_is_away(char **words) {
         usleep(1000);
     }
     WANT(error.code == KRLCACHE_AWAY && strlen(error.sentence) > 0);
+    EXPECT(KRLCACHE_AWAY, krlcache_table_fault(table, &error));
     ask("sql UPDATE krl.state SET servers = right_state.servers FROM right_state");
     read_into_memory(table, &key, 1, rows);
     krlcache_close(other);

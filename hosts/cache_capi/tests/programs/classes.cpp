@@ -89,12 +89,17 @@ void keys_of_several_columns(const krlcache::cache &cache) {
 
 void errors(const krlcache::cache &cache, const krlcache::table &items) {
     throws(KRLCACHE_NOT_CACHED, [&] { (void)cache.table("plain"); });
+    try {
+        (void)cache.table("missing");
+    } catch (const krlcache::error &failed) {
+        WANT(failed.code() == KRLCACHE_DATABASE && failed.sqlstate() == "42P01");
+    }
     throws(KRLCACHE_BAD_KEY, [&] { (void)items.get("lamp"); });
     krlcache::rows lamp = items.get(3);
     throws(KRLCACHE_BAD_COLUMN, [&] { (void)lamp[0].get<double>("id"); });
     throws(KRLCACHE_BAD_COLUMN, [&] { (void)lamp[0].get<std::int64_t>("weight"); });
     throws(KRLCACHE_MISUSE, [] { krlcache::cache{krlcache::options()}; });
-    WANT(!cache.fault() && items.statistics().hits > 0);
+    WANT(!cache.fault() && !items.fault() && items.statistics().hits > 0);
 }
 
 } // namespace

@@ -19,6 +19,7 @@ static void null_pointers(void) {
     EXPECT(KRLCACHE_MISUSE, krlcache_open(&options, &opened, NULL));
     WANT(opened == NULL);
     EXPECT(KRLCACHE_MISUSE, krlcache_fault(NULL, &error));
+    EXPECT(KRLCACHE_MISUSE, krlcache_table_fault(NULL, &error));
     EXPECT(KRLCACHE_MISUSE, krlcache_table_open(NULL, "item", &table, &error));
     EXPECT(KRLCACHE_MISUSE, krlcache_table_open(cache, NULL, &table, &error));
     EXPECT(KRLCACHE_MISUSE, krlcache_table_open(cache, "item", NULL, &error));
@@ -76,8 +77,8 @@ static void wrong_options(char **words) {
     krlcache_cache *opened = NULL;
     krlcache_options right = {.size = sizeof right, .database = words[1], .lock_folder = words[2]};
     krlcache_options options = right;
-    options.size = 0;
-    EXPECT(KRLCACHE_MISUSE, krlcache_open(&options, &opened, &error));
+    for (options.size = 0; options.size < sizeof options; options.size++)
+        EXPECT(KRLCACHE_MISUSE, krlcache_open(&options, &opened, &error));
     options = right, options.database = NULL;
     EXPECT(KRLCACHE_MISUSE, krlcache_open(&options, &opened, &error));
     WANT(strcmp(error.sentence, "the option `database` is null") == 0);
@@ -119,6 +120,7 @@ static void a_child(void) {
         EXPECT(KRLCACHE_FORKED, krlcache_statistics_of(items, &counted, &error));
         EXPECT(KRLCACHE_FORKED, krlcache_table_open(cache, "item", &table, &error));
         EXPECT(KRLCACHE_FORKED, krlcache_fault(cache, &error));
+        EXPECT(KRLCACHE_FORKED, krlcache_table_fault(items, &error));
         WANT(is_text(rows, 0, "name", "item 3"));
         krlcache_table_free(items);
         krlcache_close(cache);

@@ -79,8 +79,8 @@ static void options(const world *world) {
     krlh_options good = {.size = sizeof good, .lock_file = lock_file, .number = 1}, bad = good;
     EXPECT(KRLC_LOCK_FILE_TAKEN, krlh_open(&good, 1, &client, &error));
     WANT(client == NULL);
-    bad.size = 0;
-    EXPECT(KRLC_MISUSE, krlh_open(&bad, 1, &client, &error));
+    for (bad.size = 0; bad.size < sizeof bad; bad.size++)
+        EXPECT(KRLC_MISUSE, krlh_open(&bad, 1, &client, &error));
     bad = good, bad.lock_file = NULL;
     EXPECT(KRLC_MISUSE, krlh_open(&bad, 1, &client, &error));
     bad = good, bad.lock_file = "/nowhere/client.lock";

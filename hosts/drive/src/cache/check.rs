@@ -6,6 +6,7 @@
 //! its moment have left? Each read comes after the transactions whose rows it has seen, and before
 //! those that changed these rows next. These edges must have no cycle, and along them no moment may
 //! have to be later than its answer.
+use super::closed::is_within;
 use super::readers::Language;
 use std::collections::{BTreeMap, HashMap};
 use std::fmt;
@@ -181,8 +182,13 @@ struct Order<'r> {
     verdict: Verdict,
 }
 
-/// Compares what was read with what was written.
-pub fn check(written: &Written, noted: &[NotedTransaction], reads: &[Read]) -> Verdict {
+/// Compares what was read with what was written. Nothing may have been read while it was closed.
+pub fn check(
+    written: &Written,
+    noted: &[NotedTransaction],
+    reads: &[Read],
+    closed: &[Range<u64>],
+) -> Verdict {
     let mut order = Order {
         tokens: &written.committed,
         reads,
@@ -195,6 +201,9 @@ pub fn check(written: &Written, noted: &[NotedTransaction], reads: &[Read]) -> V
     order.add_changes(&written.changes, &transactions);
     order.compare_ends(noted, &transactions);
     for read in reads {
+        if is_within(closed, read.from, read.to) {
+            order.verdict.wrong(("a read of what is closed", read.reader), || format!("{read:?}"));
+        }
         order.add_read(read);
     }
     order.find_moments();
@@ -420,7 +429,7 @@ mod tests {
 
     fn wrong(reads: &[Read]) -> Vec<&'static str> {
         let (written, noted) = written();
-        kinds(check(&written, &noted, reads))
+        kinds(check(&written, &noted, reads, &[]))
     }
 
     fn kinds(verdict: Verdict) -> Vec<&'static str> {
@@ -437,7 +446,7 @@ mod tests {
             read(330, 340, &[(1, 11), (2, 11)]),
         ];
         let (written, noted) = written();
-        let verdict = check(&written, &noted, &reads);
+        let verdict = check(&written, &noted, &reads, &[]);
         assert_eq!(verdict.count_wrong(), 0, "{:?}", verdict.shown);
         assert_eq!((verdict.rows, verdict.gaps, verdict.transactions), (5, 5, 2));
     }
@@ -451,6 +460,15 @@ mod tests {
         // Somebody has seen the later row before.
         let seen = read(310, 320, &[(1, 11), (2, 11)]);
         assert!(!wrong(&[seen, read(330, 340, &[(1, 10)])]).is_empty());
+    }
+
+    #[test]
+    fn a_read_of_what_is_closed_is_wrong() {
+        let (written, noted) = written();
+        let reads = [read(150, 160, &[(1, 10)])];
+        let kinds = |closed| kinds(check(&written, &noted, &reads, &[closed]));
+        assert_eq!(kinds(140..170), ["a read of what is closed"]);
+        assert!(kinds(140..160).is_empty());
     }
 
     #[test]
@@ -474,10 +492,10 @@ mod tests {
     fn what_a_writer_noted_has_to_be_so() {
         let (mut written, mut noted) = written();
         noted[1].end = Some((400, End::NotDone));
-        assert_eq!(kinds(check(&written, &noted, &[])), ["a failed transaction is done"]);
+        assert_eq!(kinds(check(&written, &noted, &[], &[])), ["a failed transaction is done"]);
         noted[1].end = Some((400, End::Done));
         written = Written { committed: vec![10], changes: vec![change(1, 10)] };
-        assert_eq!(kinds(check(&written, &noted, &[])), ["an answered transaction is lost"]);
+        assert_eq!(kinds(check(&written, &noted, &[], &[])), ["an answered transaction is lost"]);
     }
 
     #[test]
@@ -485,7 +503,7 @@ mod tests {
         let (written, noted) = written();
         let stale = |reader| Read { reader: Some(reader), ..read(410, 420, &[(1, 10)]) };
         let reads = [stale(Language::C), stale(Language::Python), stale(Language::Python)];
-        let found = check(&written, &noted, &reads).wrong;
+        let found = check(&written, &noted, &reads, &[]).wrong;
         let (missing, late) = ("a row is missing", "a moment that is too late");
         assert_eq!(found.get(&(missing, Some(Language::C))), Some(&1));
         assert_eq!(found.get(&(missing, Some(Language::Python))), Some(&2));

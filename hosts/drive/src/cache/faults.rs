@@ -27,13 +27,16 @@ pub enum Fault {
     KillSession,
     EndSession,
     CrashDatabase,
+    RestartDatabase,
+    RenameDatabase,
+    CloseRole,
     KillServer,
     StopServer,
     Suspend,
 }
 
 /// All of them.
-const FAULTS: [Fault; 10] = [
+const FAULTS: [Fault; 13] = [
     Fault::KillReader,
     Fault::StopReader,
     Fault::KillWorker,
@@ -41,6 +44,9 @@ const FAULTS: [Fault; 10] = [
     Fault::KillSession,
     Fault::EndSession,
     Fault::CrashDatabase,
+    Fault::RestartDatabase,
+    Fault::RenameDatabase,
+    Fault::CloseRole,
     Fault::KillServer,
     Fault::StopServer,
     Fault::Suspend,
@@ -129,6 +135,12 @@ impl Drive {
                 self.database.crash();
                 self.database.start_again();
             }
+            Fault::RestartDatabase => {
+                self.database.stop();
+                self.database.start_again();
+            }
+            Fault::RenameDatabase => self.rename_database()?,
+            Fault::CloseRole => self.close_role()?,
             Fault::KillServer => {
                 self.server.kill()?;
                 self.server = self.start_server()?;

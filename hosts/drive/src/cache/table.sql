@@ -7,6 +7,10 @@ BEGIN
     UPDATE item SET n = n + 1 WHERE id IN (2 * changed, 2 * changed + 1);
 END $$;
 
+-- Who keeps rows.
+CREATE ROLE reader LOGIN;
+GRANT SELECT ON item TO reader;
+
 -- The token of each transaction that is committed, and the changes of each key in their order.
 CREATE TABLE committed (token bigint PRIMARY KEY);
 CREATE TABLE history (place bigserial PRIMARY KEY, id bigint NOT NULL, token bigint NOT NULL, has_row boolean NOT NULL);

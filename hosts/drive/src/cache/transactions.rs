@@ -39,8 +39,8 @@ const KINDS: [(u64, Kind); 13] = [
 
 /// Those that heed no snapshot, and so are right under READ COMMITTED only. A column that was
 /// dropped counts as one of the 1,600 that a table may have: there are few.
-const KINDS_WITHOUT_SNAPSHOT: [Kind; 6] =
-    [truncate, truncate, truncate, rewrite, rewrite, add_column];
+const KINDS_WITHOUT_SNAPSHOT: [Kind; 8] =
+    [truncate, truncate, truncate, rewrite, rewrite, add_column, change_database, change_role];
 
 /// What a writer sends, and how it ends if nothing fails.
 pub struct Transaction {
@@ -212,6 +212,18 @@ fn add_column(draws: &mut Draws) -> String {
         "ALTER TABLE item DROP COLUMN IF EXISTS extra,
              ADD COLUMN extra bigint DEFAULT {number};"
     )
+}
+
+/// Everything is taken back in the middle of the transaction.
+fn change_database(draws: &mut Draws) -> String {
+    let (before, after) = (update(any_pair(draws)), update(any_pair(draws)));
+    format!("{before} ALTER DATABASE spare OWNER TO CURRENT_USER; {after}")
+}
+
+/// Everything is taken back before the commit.
+fn change_role(draws: &mut Draws) -> String {
+    let update = update(any_pair(draws));
+    format!("ALTER ROLE spare NOLOGIN; ALTER ROLE spare LOGIN; {update}")
 }
 
 /// The keys of a pair.

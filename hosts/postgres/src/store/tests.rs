@@ -1,7 +1,8 @@
 //! What is committed is what is loaded, and who commits. They start a server of PostgreSQL.
 use super::*;
+use crate::map::PostgresMap;
 use krl::store_tests::{self, REGISTER, is_deposed, put};
-use krl_testing::database::Database;
+use krl_testing::database::{Database, TRAPS};
 
 fn open(database: &Database) -> PostgresStore {
     PostgresStore::open(&database.address(), None).unwrap()
@@ -19,6 +20,23 @@ fn value(database: &Database) -> Option<Value> {
 fn what_is_loaded_is_what_was_committed() {
     let Some(database) = Database::start() else { return };
     store_tests::keeps_what_is_committed(|| open(&database));
+}
+
+#[test]
+fn nothing_of_others_is_called_in_the_name_of_the_server() {
+    let Some(database) = Database::start() else { return };
+    let sql = database.connect();
+    sql.run(TRAPS);
+    sql.run(
+        "CREATE ROLE app LOGIN; GRANT CREATE ON DATABASE postgres TO app;
+         ALTER ROLE app SET search_path = public, pg_catalog",
+    );
+    let app = ("app".to_string(), String::new());
+    let open = || PostgresStore::open(&database.address(), Some(&app)).unwrap();
+    store_tests::keeps_what_is_committed(open);
+    let mut map = PostgresMap::open(&database.address(), Some(&app)).unwrap();
+    assert!(map.replace(None, "1").unwrap() && map.replace(Some("1"), "2").unwrap());
+    assert_eq!(map.read().unwrap().as_deref(), Some("2"));
 }
 
 #[test]

@@ -15,14 +15,15 @@ use std::ops::{Range, RangeBounds};
 use std::time::Duration;
 
 /// A client whose calls are futures, for tasks of any executor. It has no executor and no timer of
-/// its own: the client's thread wakes the tasks. It has locked nothing then, so an executor may
+/// its own: threads of the client wake the tasks. They have locked nothing then, so an executor may
 /// poll a task within the call that wakes it.
 ///
 /// Each call is that of [`Client`] of the same name, with its outcomes and errors, over one server
 /// or several, and ends by the [`Client::timeout`] of the client from which this one was made, or a
-/// little later while the client connects. A call begins when its future is first polled. A read
-/// that the cache answers does not yield. A future that is dropped before it ends gives its call
-/// up: if a write was sent, nobody knows then whether it was made.
+/// little later: a third of a second at most, unless the client is just connecting. A call begins
+/// when its future is first polled. A read that the cache answers does not yield. A future that is
+/// dropped before it ends gives its call up: if a write was sent, nobody knows then whether it was
+/// made.
 ///
 /// Two things block without a future: joining, and dropping the last clone, which waits a second at
 /// most until the server has kept that the client left. So join before the executor runs or on a

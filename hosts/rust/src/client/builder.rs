@@ -1,12 +1,10 @@
 //! What a client is given before it joins.
 use crate::client::Client;
-use crate::client::joined::{Joined, leave_soon};
 use crate::client::joining::{self, JoinPurpose, Waits};
 use crate::client::joining_shards::{JoiningShards, Lock};
 use crate::client::lock_folder::lock_folder;
 use crate::client::numbers;
 use crate::client::place::Place;
-use crate::client::shard_client::ShardClient;
 use crate::client::table::Table;
 use crate::model::client_number::ClientNumber;
 use crate::model::error::{JoinError, JoinErrorKind};
@@ -16,10 +14,7 @@ use crate::net::servers::Servers;
 use crate::net::tls::TlsConfig;
 use crate::shards::map::ShardMap;
 use std::ops::Range;
-use std::panic::resume_unwind;
 use std::path::{Path, PathBuf};
-use std::sync::Arc;
-use std::thread::{self, ScopedJoinHandle};
 use std::time::Duration;
 
 /// What a client is given before it joins: where its table is, its number and its lock file, and
@@ -35,8 +30,6 @@ pub struct ClientBuilder {
     #[cfg(feature = "tls")]
     tls: Option<TlsConfig>,
 }
-
-type JoinedShard = Result<ShardClient, JoinErrorKind>;
 
 impl ClientBuilder {
     fn new(place: Place, numbers: Vec<u8>, lock: Lock) -> ClientBuilder {
@@ -90,6 +83,11 @@ impl ClientBuilder {
     /// Joins the server, or all shards of the client's keys at once. If one of them does not
     /// answer, the others are left again.
     ///
+    /// A map with a version may change meanwhile. So a server that is of another shard, or that is
+    /// not there, is waited for until the timeout. If the map was read by `ShardMap::from_file` and
+    /// the file has a next one, the client leaves what it has joined, and joins by that. A map that
+    /// was made otherwise can't be read again.
+    ///
     /// # Errors
     ///
     /// Those of [`Client::join`], with the first shard that was not joined. Of a builder for
@@ -120,33 +118,7 @@ impl ClientBuilder {
     /// Joins the shards of the client's keys as the client of this number.
     fn join_shards(&self, map: &ShardMap, number: u8, waits: Waits) -> Result<Client, JoinError> {
         let joining = self.joining(number);
-        let shards = joining.shards_of(map)?;
-        let joined: Vec<JoinedShard> = thread::scope(|scope| {
-            let joining = shards.clone().map(|shard| {
-                let lock_file = self.lock.of_shard(map.shards()[shard].first, number);
-                let servers = map.servers_of(shard);
-                let join =
-                    move || joining::join(servers, number, &lock_file, waits, JoinPurpose::Work);
-                thread::Builder::new().spawn_scoped(scope, join)
-            });
-            let joining: Vec<_> = joining.collect();
-            joining.into_iter().map(wait).collect()
-        });
-        let (mut clients, mut failed) = (Vec::new(), None);
-        for (shard, joined) in shards.clone().zip(joined) {
-            match joined {
-                Ok(client) => clients.push(Arc::new(client)),
-                Err(kind) => {
-                    failed.get_or_insert(JoinError::of(number, Some(shard))(kind));
-                }
-            }
-        }
-        if let Some(failed) = failed {
-            leave_soon(&clients.iter().collect::<Vec<_>>());
-            return Err(failed);
-        }
-        let joined = Joined::shards(map.clone(), shards.start, clients);
-        let joined = joined.ok_or_else(|| joining.of_no_shard())?;
+        let joined = joining.join(map, waits)?;
         Ok(Client::of(Table::of_shards(joined, joining, waits.timeout)))
     }
 
@@ -159,12 +131,6 @@ impl ClientBuilder {
             tls: self.tls.clone(),
         }
     }
-}
-
-/// Waits until a shard's client has joined, or has not.
-fn wait(joining: std::io::Result<ScopedJoinHandle<'_, JoinedShard>>) -> JoinedShard {
-    let joining = joining.map_err(JoinErrorKind::NoThread)?;
-    joining.join().unwrap_or_else(|panic| resume_unwind(panic))
 }
 
 impl Client {
@@ -206,7 +172,8 @@ impl Client {
     /// file of this number on this machine: it keeps a second process off the number. Of a map it
     /// is the folder of the lock files, which has to be there; it has one for each shard and
     /// number. Two machines have to have different numbers. It waits fifteen seconds for an answer,
-    /// and one second if nothing listens at the only address.
+    /// and one second if nothing listens at the only address, unless that is of a map with a version:
+    /// [`ClientBuilder::join`].
     ///
     /// ```
     /// # let folder = std::env::temp_dir().join(format!("krl-doc-map-{}", std::process::id()));

@@ -82,7 +82,7 @@ impl<'c> Calls<'c> {
         if self.pin.is_some() && !self.table.live.is_over() {
             return Some(Err(Error { kind: ErrorKind::PinIsVoid, shard }));
         }
-        if self.table.live.next_after(joined, self.end).await {
+        if self.table.live.next_after(joined, self.end, self.waiting).await {
             return None;
         }
         let is_over = self.table.live.is_over();

@@ -1,11 +1,11 @@
 //! When tasks that wait for answers give up: none of them has a thread that could wait for that.
-use crate::client::state::JobId;
 use std::collections::BTreeMap;
+use std::mem;
 use std::sync::{Mutex, MutexGuard, PoisonError};
 use std::task::Waker;
 use std::time::{Duration, Instant};
 
-/// The thread of a client looks at the deadlines this often, or when the next one comes.
+/// A thread looks at the deadlines this often, or when the next one comes.
 const LOOKS: Duration = Duration::from_millis(250);
 
 /// The tasks that wait for answers, by when they give up.
@@ -14,20 +14,25 @@ const LOOKS: Duration = Duration::from_millis(250);
 /// task, whose own calls end then.
 #[derive(Debug, Default)]
 pub(crate) struct Deadlines {
-    waiting: Mutex<BTreeMap<(Instant, JobId), Waker>>,
+    waiting: Mutex<BTreeMap<(Instant, u64), Waker>>,
 }
 
 impl Deadlines {
-    /// The task of this job is woken at its deadline.
-    pub fn put(&self, end: Instant, job: JobId, waker: &Waker) {
-        let known = self.lock().insert((end, job), waker.clone());
+    /// The task that waits for what has this number is woken at its deadline.
+    pub fn put(&self, end: Instant, number: u64, waker: &Waker) {
+        let known = self.lock().insert((end, number), waker.clone());
         drop(known);
     }
 
-    /// The job has ended.
-    pub fn remove(&self, end: Instant, job: JobId) {
-        let known = self.lock().remove(&(end, job));
+    /// It has ended.
+    pub fn remove(&self, end: Instant, number: u64) {
+        let known = self.lock().remove(&(end, number));
         drop(known);
+    }
+
+    /// Whether no task waits.
+    pub fn are_none(&self) -> bool {
+        self.lock().is_empty()
     }
 
     /// How soon to look again. A deadline that is put later may be earlier than all others.
@@ -35,6 +40,12 @@ impl Deadlines {
         let waiting = self.lock();
         let next = waiting.first_key_value().map(|((end, _), _)| *end);
         next.map_or(LOOKS, |end| end.saturating_duration_since(now).min(LOOKS))
+    }
+
+    /// Wakes all tasks, each once.
+    pub fn wake_all(&self) {
+        let all = mem::take(&mut *self.lock());
+        all.into_values().for_each(Waker::wake);
     }
 
     /// Wakes the tasks whose deadline has come, each once.
@@ -48,7 +59,7 @@ impl Deadlines {
         due.into_iter().for_each(Waker::wake);
     }
 
-    fn lock(&self) -> MutexGuard<'_, BTreeMap<(Instant, JobId), Waker>> {
+    fn lock(&self) -> MutexGuard<'_, BTreeMap<(Instant, u64), Waker>> {
         self.waiting.lock().unwrap_or_else(PoisonError::into_inner)
     }
 }
@@ -64,8 +75,8 @@ mod tests {
         let (waker, second) = (count.waker(), Duration::from_secs(1));
         let deadlines = Deadlines::default();
         assert_eq!(deadlines.next_in(now), LOOKS);
-        for (end, job) in [(now + second, 1), (now, 2), (now, 3)] {
-            deadlines.put(end, job, &waker);
+        for (end, number) in [(now + second, 1), (now, 2), (now, 3)] {
+            deadlines.put(end, number, &waker);
         }
         assert_eq!(deadlines.next_in(now), Duration::ZERO);
         deadlines.remove(now, 3);

@@ -62,8 +62,6 @@ impl Follower {
             if let Some(map) = self.map.look() {
                 self.continue_by(map);
             }
-            // Calls that wait for the next map end at their deadlines.
-            self.live.wake_all();
             thread::sleep(LOOK);
         }
     }

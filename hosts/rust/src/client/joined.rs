@@ -65,6 +65,26 @@ impl Joined {
         self.clients().for_each(|(_, client)| client.link().with_state(State::keep_all));
     }
 
+    /// The clients wait for servers that are of another shard, or that are not there.
+    pub fn follow_map(&self) {
+        self.clients().for_each(|(_, client)| client.link().follow_map());
+    }
+
+    /// They wait no longer for servers that are of another shard.
+    pub fn keep_to_map(&self) {
+        self.clients().for_each(|(_, client)| client.link().keep_to_map());
+    }
+
+    /// Whether a next map may take the place of theirs.
+    pub fn may_change(&self) -> bool {
+        self.map.as_ref().is_some_and(|map| map.version().is_some())
+    }
+
+    /// Leaves all servers at once, and waits for as long as a client that is dropped does.
+    pub fn leave_soon(&self) {
+        leave_soon(&self.clients().map(|(_, client)| client).collect::<Vec<_>>());
+    }
+
     pub fn map(&self) -> Option<&ShardMap> {
         self.map.as_ref()
     }

@@ -29,6 +29,11 @@ impl Waits {
     pub fn by_default() -> Waits {
         Waits { timeout: TIMEOUT, if_in_use: Duration::MAX }
     }
+
+    /// When what began at this moment ends.
+    pub fn end(self, begun: Instant) -> Instant {
+        begun + self.timeout.min(MAX_WAIT)
+    }
 }
 
 /// What a client joins for.
@@ -52,7 +57,20 @@ pub(crate) fn join(
 ) -> Result<ShardClient, JoinErrorKind> {
     let client = start(servers, number, lock_file, purpose)?;
     let begun = Instant::now();
-    let gives_up = move |refusal, now: Instant| match purpose {
+    let joining = client.link().join(gives_up(waits, purpose, begun));
+    match client.link().finish(joining, waits.end(begun)) {
+        Ok(()) => Ok(client),
+        Err(refused) => Err(not_joined(&client, refused)),
+    }
+}
+
+/// Whether a client that began to join at this moment gives up, since its server reports this reason.
+pub(crate) fn gives_up(
+    waits: Waits,
+    purpose: JoinPurpose,
+    begun: Instant,
+) -> impl Fn(Refusal, Instant) -> bool + Send + 'static {
+    move |refusal, now| match purpose {
         JoinPurpose::Work => {
             let waited = now.saturating_duration_since(begun);
             let may_try_another = waits.if_in_use < Duration::MAX;
@@ -61,10 +79,6 @@ pub(crate) fn join(
         }
         // A greater incarnation is taken then.
         JoinPurpose::Evict { .. } => matches!(refusal, Refusal::Incarnation { .. }),
-    };
-    match client.link().join(waits.timeout.min(MAX_WAIT), gives_up) {
-        Ok(()) => Ok(client),
-        Err(refused) => Err(not_joined(&client, refused)),
     }
 }
 
@@ -93,7 +107,7 @@ pub(crate) fn start(
 }
 
 /// Ends a client that has not joined: it sends Bye, and waits for nothing.
-fn not_joined(client: &ShardClient, refused: ErrorKind) -> JoinErrorKind {
+pub(crate) fn not_joined(client: &ShardClient, refused: ErrorKind) -> JoinErrorKind {
     let link = client.link();
     let (fault, nothing_listens) = (link.take_fault(), link.take_nothing_listens());
     let rejection = link.rejection();

@@ -165,6 +165,11 @@ impl Link {
         self.with_session(Session::follow_map);
     }
 
+    /// From now on the client waits no longer for one that is of another shard.
+    pub fn keep_to_map(&self) {
+        self.with_session(Session::keep_to_map);
+    }
+
     /// Whether what is not kept is to be read from this server.
     pub fn standing(&self) -> Standing {
         self.session().standing()
@@ -237,7 +242,8 @@ impl Link {
     fn connect_and_serve(&self, address: &Address, poller: &mut Poller) -> io::Result<Infallible> {
         self.with_lock_file(|link, file| engine::begin_again_if_due(link, file))?;
         let carrier = Carrier::connect(address, self.servers.tls(), CONNECT)?;
-        let first = self.with_lock_file(|link, file| engine::begin_connection(link, file))?;
+        let mut first = self.with_lock_file(|link, file| engine::begin_connection(link, file))?;
+        carrier.hand_over_process(&mut first);
         self.writer.open(carrier.try_clone()?, first);
         event_log::connected(address);
         let ended = self.serve(carrier, poller);

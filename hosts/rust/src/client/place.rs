@@ -23,6 +23,11 @@ impl Place {
         }
     }
 
+    /// Whether it is a map that a next one may replace.
+    pub(crate) fn has_version(&self) -> bool {
+        matches!(self, Place::Map(map) if map.version().is_some())
+    }
+
     /// The same place, whose servers are shown this if they listen over TLS.
     #[cfg(feature = "tls")]
     pub(crate) fn with_tls(self, config: TlsConfig) -> Place {

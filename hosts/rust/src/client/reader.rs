@@ -1,11 +1,12 @@
 //! Reads that are not kept.
 mod connection;
 mod faults;
-mod followed;
 mod of_server;
 mod until;
 
+use crate::client::followed_map::FollowedMap;
 use crate::client::place::Place;
+use crate::client::standing::Standing;
 use crate::client::timeout::{MAX_WAIT, TIMEOUT};
 #[cfg(feature = "map-file")]
 use crate::client::watched_map::WatchedMap;
@@ -16,7 +17,6 @@ use crate::model::row::{END, Row, Value};
 use crate::net::tls::TlsConfig;
 use crate::proved::partition::Part;
 use crate::shards::map::ShardMap;
-use followed::FollowedMap;
 pub(crate) use of_server::ServerReader;
 #[cfg(feature = "map-file")]
 use std::io;
@@ -35,9 +35,10 @@ pub(crate) use until::Until;
 /// written and answered before a call is in what it returns.
 ///
 /// It connects at its first call, and again after a connection has ended. Until a server has answered
-/// it, it gives up as a client that joins does; later it waits for its server to come back. A reader of
-/// a map that changes follows it by `Reader::follow`, with the feature `map-file`. It belongs to one
-/// thread at a time: for several threads make several.
+/// it, it gives up as a client that joins does, and by a map with a version only at its deadline, since
+/// the shard may be changing; later it waits for its server to come back. A reader of a map that
+/// changes follows it by `Reader::follow`, with the feature `map-file`. It belongs to one thread at a
+/// time: for several threads make several.
 ///
 /// # Examples
 ///
@@ -92,8 +93,7 @@ impl Reader {
 
     /// From now on the reader follows the map in this file, as a client does. It looks at the file if
     /// a server does not answer or is of another shard, and asks again by a map whose version is
-    /// greater. So a call ends by the error of a server only at its deadline: to learn soon that no
-    /// server is there, connect before.
+    /// greater. So a call ends by the error of a server only at its deadline.
     ///
     /// # Errors
     ///
@@ -254,7 +254,13 @@ impl Reader {
         let place = &self.place;
         let server =
             self.servers[shard].get_or_insert_with(|| ServerReader::new(place.servers_of(shard)));
-        let mut until = Until { deadline, standing: &mut || self.followed.standing() };
+        // The shard may be changing as the reader connects.
+        let may_change = place.has_version() && !server.has_answer();
+        let standing = &mut || match self.followed.standing() {
+            Standing::Fixed if may_change => Standing::Here,
+            standing => standing,
+        };
+        let mut until = Until { deadline, standing };
         let answer = question(server, &mut until);
         answer.map_err(|kind| Error { kind, shard: self.named(shard) })
     }

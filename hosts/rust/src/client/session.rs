@@ -84,11 +84,13 @@ pub(crate) struct Session {
     map_follower: MapFollower,
 }
 
-/// Whether a client continues by each next map of its shards.
+/// Whether a client waits for a server that is of another shard, or that is not there: the shard
+/// may be changing.
 #[derive(Clone, Copy, Debug, PartialEq, Eq)]
 enum MapFollower {
     No,
-    /// It does. Until it has joined, it connects again soon for a while after this moment.
+    /// It does, since it joins by a map that may change, or continues by each next map. Until it has
+    /// joined, it connects again soon for a while after this moment.
     Since(Instant),
 }
 
@@ -144,6 +146,11 @@ impl Session {
     /// the next map, by which the client leaves, is about to come.
     pub fn follow_map(&mut self) {
         self.map_follower = MapFollower::Since(self.now());
+    }
+
+    /// From now on it waits no longer for one that is of another shard.
+    pub fn keep_to_map(&mut self) {
+        self.map_follower = MapFollower::No;
     }
 
     /// Whether what is not kept is to be read from this server: not if the client leaves, since its
@@ -368,6 +375,9 @@ impl Session {
     /// Nobody waits for the job any more. Returns why it has no answer.
     pub fn give_up(&mut self, job: JobId) -> ErrorKind {
         let why = self.unanswered(self.state.was_sent(job));
+        if self.joining.as_ref().is_some_and(|joining| joining.job == job) {
+            self.note_if_nothing_listens();
+        }
         self.state.abandon(job, why);
         why
     }
@@ -399,21 +409,30 @@ impl Session {
     }
 
     /// A client that joins gives up if nothing listens at its only address. Of several servers the
-    /// others stand by, and refuse until one of them has taken over. A client that has joined once
-    /// waits for a server to come back.
+    /// others stand by, and refuse until one of them has taken over. The server of a shard may be
+    /// about to start, since the shard changes. A client that has joined once waits for a server to
+    /// come back.
     fn end_join_if_nothing_listens(&mut self) {
         if !self.gives_up_if_refused() || !self.refused_connects.are_final() {
             return;
         }
-        self.nothing_listens = self.fault.take();
+        self.note_if_nothing_listens();
         if let Some(Joining { job, .. }) = self.joining.take() {
             self.state.refuse(job, ErrorKind::TimedOut);
         }
     }
 
+    /// Keeps why a client that was to join gives up, if nothing listens at its only address.
+    fn note_if_nothing_listens(&mut self) {
+        if !self.servers.are_several() && self.refused_connects.are_final() {
+            self.nothing_listens = self.fault.take();
+        }
+    }
+
     fn gives_up_if_refused(&self) -> bool {
         let is_joining = |joining: &Joining| self.state.is_open(joining.job);
-        !self.servers.are_several() && self.joining.as_ref().is_some_and(is_joining)
+        let may_change = self.map_follower != MapFollower::No;
+        !self.servers.are_several() && !may_change && self.joining.as_ref().is_some_and(is_joining)
     }
 
     fn end_join_if_hopeless(&mut self) {

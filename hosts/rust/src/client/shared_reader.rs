@@ -1,19 +1,24 @@
 //! What a client of one server reads and does not keep, by a connection of its own.
+use crate::client::alarm::Alarm;
 use crate::client::answer::{Answering, place};
 use crate::client::link::Link;
 use crate::client::reader::{ServerReader, Until};
+use crate::client::turns::Turns;
 use crate::client::waiting::Waiting;
 use crate::client::wakes::Wakes;
 use crate::model::error::ErrorKind;
 use crate::model::row::Row;
-use std::future::poll_fn;
 use std::io;
 use std::ops::Range;
 use std::panic::{AssertUnwindSafe, catch_unwind};
 use std::sync::mpsc::{Receiver, Sender, channel};
 use std::sync::{Arc, Mutex, MutexGuard, PoisonError};
 use std::thread;
-use std::time::Instant;
+use std::time::{Duration, Instant};
+
+/// How long after its deadline a task waits for the thread that reads for it: that may know why it has
+/// no answer.
+const LATE: Duration = Duration::from_millis(50);
 
 /// A reader for threads, which take turns, and for tasks: a thread reads for these, one after the
 /// other.
@@ -23,11 +28,13 @@ pub(crate) struct SharedReader {
     /// after it.
     asked: Mutex<Option<Sender<Question>>>,
     wakes: Wakes,
+    /// When tasks give up whose turn does not come.
+    alarm: Arc<Alarm>,
 }
 
 /// What answers one call after the other.
 struct Source {
-    reader: Mutex<ServerReader>,
+    reader: Turns<ServerReader>,
     /// The client's own connection, which knows when the client leaves.
     link: Arc<Link>,
 }
@@ -45,12 +52,14 @@ type Answered = Result<Vec<Row>, ErrorKind>;
 impl SharedReader {
     /// It connects at its first call.
     pub fn new(link: Arc<Link>) -> SharedReader {
-        let reader = Mutex::new(ServerReader::new(link.servers().clone()));
+        let reader = Turns::new(ServerReader::new(link.servers().clone()));
         let source = Arc::new(Source { reader, link });
-        SharedReader { source, asked: Mutex::default(), wakes: Wakes::default() }
+        let (asked, wakes, alarm) = (Mutex::default(), Wakes::default(), Arc::default());
+        SharedReader { source, asked, wakes, alarm }
     }
 
-    /// The rows of the keys, as the store has them.
+    /// The rows of the keys, as the store has them. It ends at its deadline, also if others read that
+    /// have a later one.
     pub async fn read(&self, keys: Range<u64>, deadline: Instant, waiting: Waiting) -> Answered {
         let asked = match waiting {
             Waiting::OnThread => None,
@@ -61,7 +70,11 @@ impl SharedReader {
         let (answering, answer) = place(&self.wakes);
         // It would fail only without the thread, which then answers nothing.
         let _ = asked.send(Question { keys, deadline, answering });
-        poll_fn(|context| answer.poll(context)).await.unwrap_or(Err(ErrorKind::Stopped))
+        let end = deadline + LATE;
+        match self.alarm.until(end, waiting, |context| answer.poll(context)).await {
+            Some(answered) => answered.unwrap_or(Err(ErrorKind::Stopped)),
+            None => Err(ErrorKind::TimedOut),
+        }
     }
 
     /// Where tasks ask.
@@ -86,10 +99,12 @@ impl SharedReader {
 impl Source {
     /// The rows of the keys, as the store has them. It ends with `Left` once the client leaves.
     fn read(&self, keys: Range<u64>, deadline: Instant) -> Answered {
-        let mut reader = lock(&self.reader);
-        let mut until = Until { deadline, standing: &mut || self.link.standing() };
-        until.refuse_elsewhere()?;
-        reader.read(keys, &mut until)
+        let read = |reader: &mut ServerReader| {
+            let mut until = Until { deadline, standing: &mut || self.link.standing() };
+            until.refuse_elsewhere()?;
+            reader.read(keys, &mut until)
+        };
+        self.reader.use_by(deadline, read).unwrap_or(Err(ErrorKind::TimedOut))
     }
 }
 

@@ -1,20 +1,20 @@
 //! What the clones of a client and its pins share: the servers that it has joined, by the map of
 //! now.
-use crate::client::joined::{Joined, leave_all, leave_soon};
+use crate::client::alarm::Alarm;
+use crate::client::joined::{Joined, leave_all};
 use crate::client::joining_shards::JoiningShards;
 use crate::client::shard_client::ShardClient;
 use crate::client::state::State;
 use crate::client::timeout::Timeout;
+use crate::client::waiting::Waiting;
 use crate::model::error::{Error, JoinError, JoinErrorKind};
 use crate::model::row::Row;
 use crate::proved::losses::Tenure;
 use crate::shards::map::ShardMap;
-use std::future::poll_fn;
-use std::mem;
 use std::ops::Range;
 use std::sync::atomic::{AtomicBool, Ordering};
 use std::sync::{Arc, Mutex, MutexGuard, PoisonError, RwLock};
-use std::task::{Poll, Waker};
+use std::task::{Context, Poll};
 use std::time::{Duration, Instant};
 
 /// How long the servers of shards that the next map changes may take to keep that the client has
@@ -42,7 +42,7 @@ pub(crate) struct Live {
     /// No client of a shard is started while this is held.
     starting: Mutex<()>,
     /// The calls that wait for the next map.
-    waiting: Mutex<Vec<Waker>>,
+    waiting: Arc<Alarm>,
 }
 
 impl Table {
@@ -72,7 +72,7 @@ impl Table {
         self.only.as_deref()
     }
 
-    /// /// The servers by the current map.
+    /// The servers by the current map.
     pub fn now(&self) -> Arc<Joined> {
         self.live.now()
     }
@@ -108,8 +108,7 @@ impl Drop for Table {
     fn drop(&mut self) {
         let joined = self.live.end();
         if self.only.is_none() {
-            let clients: Vec<_> = joined.clients().map(|(_, client)| client).collect();
-            leave_soon(&clients);
+            joined.leave_soon();
         }
     }
 }
@@ -122,7 +121,7 @@ impl Live {
             is_over: AtomicBool::new(false),
             changing: Mutex::new(()),
             starting: Mutex::new(()),
-            waiting: Mutex::new(Vec::new()),
+            waiting: Arc::default(),
         }
     }
 
@@ -145,31 +144,23 @@ impl Live {
         self.is_over.store(true, Ordering::SeqCst);
         // A change that has begun to start clients ends first. No other one starts any.
         drop(lock(&self.starting));
-        self.wake_all();
+        self.waiting.wake_all();
         self.now()
     }
 
     /// Waits until there is another map than that of these servers. Returns whether there is: not if
     /// the client leaves, and not at the deadline.
-    pub async fn next_after(&self, before: &Arc<Joined>, end: Instant) -> bool {
-        poll_fn(|context| {
-            // It is put before the look at the map, so that the change finds it in any case.
-            lock(&self.waiting).push(context.waker().clone());
+    pub async fn next_after(&self, before: &Arc<Joined>, end: Instant, waiting: Waiting) -> bool {
+        let look = |_: &Context<'_>| {
             if !Arc::ptr_eq(&self.now(), before) {
                 Poll::Ready(true)
-            } else if self.is_over() || Instant::now() >= end {
+            } else if self.is_over() {
                 Poll::Ready(false)
             } else {
                 Poll::Pending
             }
-        })
-        .await
-    }
-
-    /// Has each call that waits look at the map, and at its deadline.
-    pub fn wake_all(&self) {
-        let waiting = mem::take(&mut *lock(&self.waiting));
-        waiting.into_iter().for_each(Waker::wake);
+        };
+        self.waiting.until(end, waiting, look).await.unwrap_or(false)
     }
 
     /// Continues by this map, if it comes after the current one. A shard that is the same in both
@@ -216,14 +207,14 @@ impl Live {
             let joined = Arc::new(joined.after(&before));
             *self.now.write().unwrap_or_else(PoisonError::into_inner) = joined;
         }
-        self.wake_all();
+        self.waiting.wake_all();
         Ok(())
     }
 
     /// The clients wait for servers that are of another shard.
     #[cfg(feature = "map-file")]
     pub fn follow_map(&self) {
-        self.now().clients().for_each(|(_, client)| client.link().follow_map());
+        self.now().follow_map();
     }
 
     /// The clients keep what they read.

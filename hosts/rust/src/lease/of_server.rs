@@ -157,6 +157,25 @@ impl LeaseTable {
         done(ffi::krl_lease_table_register(table, client.into(), incarnation, now)).map(drop)
     }
 
+    /// No process of the registered incarnation is left, as this server's host knows: it answers
+    /// nothing from now on, and [`LeaseTable::evict`] evicts it. Nothing changes if it has left, or
+    /// if it has a lease for whose end a greater incarnation waits: that one's sign counts.
+    ///
+    /// The table learns it as from a lock file: by a sign of the incarnation that is to evict it,
+    /// whose host is this server's.
+    pub fn is_over(&mut self, client: u8, now: Moment) -> Result<(), Code> {
+        let ffi::LeaseShown { registered, is_present, signer, .. } = self.shown(client);
+        let Some(successor) = registered.checked_add(1).filter(|_| is_present != 0) else {
+            return Ok(());
+        };
+        if signer <= successor {
+            let (incarnation, over, stamp) = (successor, registered, now.nanoseconds());
+            let sign = ffi::RawSign { incarnation, stamp, length: 0, over, is_vouched: 0 };
+            done(ffi::krl_lease_table_sign(&mut self.table, client.into(), &sign, stamp))?;
+        }
+        self.admit(client, successor, now).map(drop)
+    }
+
     /// The incarnation by whose Hello and Bye the client is to be evicted, if it is. It answers
     /// nothing from then on.
     pub fn evict(&mut self, client: u8, now: Moment) -> Result<Option<u64>, Code> {

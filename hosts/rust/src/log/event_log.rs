@@ -4,6 +4,7 @@
     allow(
         unused_variables,
         clippy::if_same_then_else,
+        clippy::match_same_arms,
         clippy::single_match,
         reason = "without the feature nothing is logged"
     )
@@ -45,13 +46,20 @@ pub(crate) struct At {
     pub peer: PeerAddress,
 }
 
+/// What of a client has ended, so that the server evicts it.
+#[derive(Clone, Copy, Debug, PartialEq, Eq)]
+pub(crate) enum Ended {
+    Lease,
+    Process,
+}
+
 /// What a server has reported, so that nothing is reported twice.
 #[derive(Debug, Default)]
 pub(crate) struct EventLog {
     /// The clients that ever registered: the incarnation, and whether it has left.
     clients: BTreeMap<u8, (u64, bool)>,
     /// The clients that are being evicted, each with the incarnation that takes its place.
-    evicting: BTreeMap<u8, u64>,
+    evicting: BTreeMap<u8, (u64, Ended)>,
     is_serving: Option<bool>,
     missing: Vec<u8>,
     bad_messages: RateLimit,
@@ -117,21 +125,30 @@ impl EventLog {
     }
 
     /// The server evicts a client by a successor. It reports this once, when that is committed.
-    pub fn evicts(&mut self, client: u8, successor: u64) {
-        self.evicting.insert(client, successor);
+    pub fn evicts(&mut self, client: u8, successor: u64, ended: Ended) {
+        self.evicting.insert(client, (successor, ended));
     }
 
     fn joined(&mut self, client: u8, incarnation: u64, at: Option<At>) {
         let peer = at.map_or(PeerAddress::Gone, |at| at.peer);
-        if self.evicting.get(&client) == Some(&incarnation) {
+        let evicting = self.evicting.get(&client).filter(|(it, _)| *it == incarnation);
+        if let Some((_, ended)) = evicting {
             let before = self.clients.insert(client, (incarnation, false));
             let evicted = before.map(|(incarnation, _)| incarnation);
-            tell!(
-                warn,
-                client,
-                incarnation = evicted,
-                "a client is evicted: its lease has ended, and no sign of it came"
-            );
+            match ended {
+                Ended::Lease => tell!(
+                    warn,
+                    client,
+                    incarnation = evicted,
+                    "a client is evicted: its lease has ended, and no sign of it came"
+                ),
+                Ended::Process => tell!(
+                    warn,
+                    client,
+                    incarnation = evicted,
+                    "a client is evicted: its process has ended, and it had not left"
+                ),
+            }
             return;
         }
         match self.clients.insert(client, (incarnation, false)) {
@@ -154,7 +171,7 @@ impl EventLog {
     fn left(&mut self, client: u8) {
         if let Some((incarnation, has_left)) = self.clients.get_mut(&client) {
             *has_left = true;
-            if self.evicting.remove(&client) == Some(*incarnation) {
+            if self.evicting.remove(&client).is_some_and(|(it, _)| it == *incarnation) {
                 return;
             }
             tell!(info, client, incarnation = *incarnation, "a client has left");

@@ -138,8 +138,9 @@ pub enum JoinErrorKind {
         fault: Option<io::Error>,
     },
     /// Nothing listens at the client's only address: it has refused connections for a second, or
-    /// there is no such socket. It comes before the client's timeout, unless that is shorter. A
-    /// server that begins to listen within this second is found. A client of several servers waits
+    /// there is no such socket. It comes before the client's timeout, unless that is shorter, or the
+    /// address is of a map with a version: then the shard may be changing, and it comes at the
+    /// timeout. A server that begins to listen before is found. A client of several servers waits
     /// for one of them to take over, and ends with `NoAnswer` at its timeout.
     NothingListens {
         /// The servers that the client tried.
@@ -163,7 +164,8 @@ pub enum JoinErrorKind {
     /// have ended for it.
     TurnedAway(String),
     /// The server serves another shard than the client takes it for, or by another map. If the
-    /// client has one server, it comes as soon as two connections in a row have ended for it.
+    /// client has one server, it comes as soon as two connections in a row have ended for it; by a
+    /// map with a version, whose shards may be changing, at the timeout.
     OtherShard(OtherShard),
     /// The system gives no thread for the client's connection, or no file by which it waits.
     NoThread(io::Error),

@@ -3,8 +3,9 @@
 use crate::net::address::Address;
 use crate::net::connect_fault::Rejection;
 use crate::net::outbox::Outbox;
+use crate::net::process;
 use crate::net::stream::Stream;
-use crate::net::tls::{Side, TlsConfig, TlsSession};
+use crate::net::tls::{NEEDED, Side, TlsConfig, TlsSession};
 use crate::wire::frames::Frames;
 use std::io::{self, ErrorKind, Read, Write};
 use std::sync::{Arc, Mutex, MutexGuard, PoisonError};
@@ -51,6 +52,15 @@ impl Carrier {
     pub fn over(stream: Stream, session: Option<TlsSession>) -> io::Result<Carrier> {
         stream.never_wait()?;
         Ok(Carrier { stream, session: session.map(|session| Arc::new(Mutex::new(session))) })
+    }
+
+    /// Over a Unix socket: hands this process over to the server with the first bytes, and takes
+    /// those away that are written so. The system may refuse that: then all of them are left.
+    pub fn hand_over_process(&self, first: &mut Vec<u8>) {
+        if self.stream.is_unix() {
+            let written = process::write_with_this_process(&self.stream, first);
+            first.drain(..written.unwrap_or(0));
+        }
     }
 
     pub fn try_clone(&self) -> io::Result<Carrier> {
@@ -109,10 +119,7 @@ fn shake(stream: &mut Stream, session: &mut TlsSession, end: Instant) -> io::Res
 }
 
 fn without_certificate(address: &Address) -> io::Error {
-    let why = format!(
-        "{address} is an address of TLS: the client needs a certificate, its key, and that of the \
-         authority, and the feature `tls`"
-    );
+    let why = format!("{address} is an address of TLS: the client needs {NEEDED}");
     Rejection::NotTaken(why).into()
 }
 

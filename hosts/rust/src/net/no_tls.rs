@@ -3,6 +3,10 @@ use crate::access::identity::Identity;
 use crate::wire::frames::Frames;
 use std::io::{self, Read};
 
+/// What one needs at an address of TLS.
+pub(crate) const NEEDED: &str =
+    "a certificate, its key, that of the authority, and the feature `tls`";
+
 /// There is none.
 #[derive(Clone, Debug, PartialEq, Eq)]
 pub(crate) enum TlsConfig {}

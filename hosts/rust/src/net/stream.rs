@@ -290,6 +290,10 @@ impl Stream {
         Ok(Stream(stream.into()))
     }
 
+    pub fn is_unix(&self) -> bool {
+        self.0.domain().is_ok_and(|domain| domain == Domain::UNIX)
+    }
+
     pub fn try_clone(&self) -> io::Result<Stream> {
         self.0.try_clone().map(Stream)
     }

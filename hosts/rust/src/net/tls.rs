@@ -21,6 +21,9 @@ use std::fmt;
 use std::io::{self, ErrorKind, Read};
 use std::sync::{Arc, OnceLock};
 
+/// What one needs at an address of TLS.
+pub(crate) const NEEDED: &str = "a certificate, its key, and that of the authority";
+
 /// The most bytes that come in a handshake: a chain of certificates has a few thousand.
 const LONGEST_HANDSHAKE: usize = 1 << 16;
 

@@ -5,6 +5,7 @@ use crate::model::history::Seen;
 use crate::model::refusal::Refusal;
 use crate::model::room::Room;
 use crate::net::poller::IoInterest;
+use crate::net::process::Process;
 use crate::net::readiness::Readiness;
 use crate::net::stream::PeerAddress;
 use crate::server::close_reason::CloseReason;
@@ -18,6 +19,7 @@ use closing::Closings;
 use std::collections::{BTreeMap, BTreeSet, VecDeque};
 use std::fmt::Display;
 use std::io::{self, Read, Write};
+use std::sync::Arc;
 use std::time::{Duration, Instant};
 
 /// The most connections that have shown whose they are, by default. One more is refused.
@@ -61,6 +63,8 @@ pub(crate) struct Connections {
 struct Peer {
     connection: Connection,
     address: PeerAddress,
+    /// That of the client's host, if it has handed it over.
+    process: Option<Arc<Process>>,
     opened: Instant,
     is_in_ready: bool,
     is_in_sending: bool,
@@ -339,6 +343,18 @@ impl Connections {
             self.sending.push(number);
         }
         Some(&mut peer.connection)
+    }
+
+    /// The peer has handed over its process.
+    pub fn has_process(&mut self, number: u64, process: Process) {
+        if let Some(peer) = self.open.get_mut(&number) {
+            peer.process = Some(Arc::new(process));
+        }
+    }
+
+    /// The process that was handed over on this connection, if one was.
+    pub fn process(&self, number: u64) -> Option<&Arc<Process>> {
+        self.open.get(&number)?.process.as_ref()
     }
 
     /// From now on the client's messages go to this connection.

@@ -15,6 +15,7 @@ use crate::server::close_reason::CloseReason;
 use crate::server::connections::{Connections, Found};
 use crate::server::error::ServeError;
 use crate::server::held_back::HeldBack;
+use crate::server::processes::Processes;
 use crate::server::routing::{Sender, sender};
 use crate::server::shown::client_status::LastReceived;
 use crate::server::shown::status::Status;
@@ -63,6 +64,7 @@ pub(crate) struct EventLoop {
     connections: Connections,
     held_back: HeldBack,
     leases: LeaseTable,
+    processes: Processes,
     /// What the next commit has to make.
     gathered: Gathered,
     /// Questions that wait for a commit.
@@ -128,6 +130,7 @@ impl EventLoop {
             connections,
             held_back: HeldBack::new(),
             leases,
+            processes: Processes::default(),
             gathered: Gathered::default(),
             reads: Reads::default(),
             watch: Watch::default(),
@@ -320,6 +323,9 @@ impl EventLoop {
                     self.watch.may_change(client);
                 }
                 self.connections.route(client, connection);
+                if let Some(process) = self.connections.process(connection) {
+                    self.processes.note(client, incarnation, process);
+                }
             }
             // The frame leaves after the change is on the disk. It shows the client that it need
             // not send Bye again.
@@ -362,7 +368,7 @@ impl EventLoop {
             let _ = self.server.nudge(client);
         }
         self.look_at_waits(now);
-        self.evict_silent(now)?;
+        self.evict_ended(now)?;
         Ok(true)
     }
 

@@ -3,8 +3,9 @@
 use crate::access::Access;
 use crate::lease::clocks::Now;
 use crate::net::poller::{IoInterest, Poller, Ready};
+use crate::net::process::{Process, read_with_process};
 use crate::net::readiness::Readiness;
-use crate::net::stream::{Accepted, Listener, Stream};
+use crate::net::stream::{Accepted, Listener, PeerAddress, Stream};
 use crate::server::connections::{Closed, Connections, Found};
 use crate::server::listening::Listening;
 use crate::wire::frames::GULP;
@@ -33,6 +34,14 @@ pub(crate) struct Sockets {
 struct Socket {
     stream: Stream,
     interest: IoInterest,
+    /// Its peer may hand its process over with the first bytes.
+    is_first_read: bool,
+}
+
+/// The first read of a Unix socket, which may bring the peer's process.
+struct FirstRead<'s> {
+    stream: &'s mut Stream,
+    process: Option<Process>,
 }
 
 impl Sockets {
@@ -86,14 +95,19 @@ impl Sockets {
         stream.never_wait()?;
         let number = connections.enter(entry, peer);
         self.poller.add(number, &stream).inspect_err(|_| connections.is_lost(number))?;
-        self.open.insert(number, Socket { stream, interest: IoInterest::Reads });
+        let is_first_read = matches!(peer, PeerAddress::Unix(_));
+        self.open.insert(number, Socket { stream, interest: IoInterest::Reads, is_first_read });
         Ok(())
     }
 
     /// Reads once from this connection, and returns what it has then.
     pub fn read(&mut self, connections: &mut Connections, number: u64) -> Found {
         let Some(socket) = self.open.get_mut(&number) else { return Found::Nothing };
-        let came = connections.fill(number, &mut socket.stream);
+        let came = if socket.is_first_read {
+            socket.read_first(connections, number)
+        } else {
+            connections.fill(number, &mut socket.stream)
+        };
         connections.has_read(number, came, Now::read())
     }
 
@@ -147,6 +161,27 @@ impl Sockets {
             self.settle(connections);
             now = Instant::now();
         }
+    }
+}
+
+impl Socket {
+    /// Reads once, and notes the process that came with the first bytes.
+    fn read_first(&mut self, connections: &mut Connections, number: u64) -> io::Result<usize> {
+        let mut first = FirstRead { stream: &mut self.stream, process: None };
+        let count = connections.fill(number, &mut first)?;
+        if let Some(process) = first.process {
+            connections.has_process(number, process);
+        }
+        self.is_first_read = false;
+        Ok(count)
+    }
+}
+
+impl Read for FirstRead<'_> {
+    fn read(&mut self, bytes: &mut [u8]) -> io::Result<usize> {
+        let (count, process) = read_with_process(self.stream, bytes)?;
+        self.process = process;
+        Ok(count)
     }
 }
 

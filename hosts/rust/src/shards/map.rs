@@ -11,6 +11,8 @@ use crate::proved::partition::{Part, Partition};
 use std::fmt;
 use std::num::NonZeroU64;
 use std::ops::{Range, RangeBounds};
+#[cfg(feature = "map-file")]
+use std::path::{Path, PathBuf};
 
 /// One shard: the keys from `first` on below the next shard's first one, and its servers.
 #[derive(Clone, Debug, PartialEq, Eq)]
@@ -40,12 +42,17 @@ impl Shard {
 /// started as that of its shard ([`ServerBuilder::shard`]), and serves only clients of the same
 /// map. A map without a version is not: nothing notices two of them.
 ///
+/// Two maps are equal if they have the same shards and the same version, wherever they come from.
+///
 /// [`ServerBuilder::shard`]: crate::ServerBuilder::shard
-#[derive(Clone, Debug, PartialEq, Eq)]
+#[derive(Clone, Debug)]
 pub struct ShardMap {
     shards: Vec<Shard>,
     partition: Partition,
     version: Option<NonZeroU64>,
+    /// The file that holds it, if it was read from one.
+    #[cfg(feature = "map-file")]
+    file: Option<PathBuf>,
 }
 
 /// Shards that make no map: there is none, or there are more than 64; the first one does not begin
@@ -76,7 +83,13 @@ impl ShardMap {
             return Err(BadShardMap);
         }
         let partition = Partition::new(firsts.collect()).map_err(|_| BadShardMap)?;
-        Ok(ShardMap { shards, partition, version: None })
+        Ok(ShardMap {
+            shards,
+            partition,
+            version: None,
+            #[cfg(feature = "map-file")]
+            file: None,
+        })
     }
 
     /// The shards, in ascending order. Their number, from 0, is their place here.
@@ -97,6 +110,18 @@ impl ShardMap {
         let shown =
             |shard: Shard| Shard { servers: shard.servers.with_tls(config.clone()), ..shard };
         ShardMap { shards: self.shards.into_iter().map(shown).collect(), ..self }
+    }
+
+    /// The same map, which this file holds.
+    #[cfg(feature = "map-file")]
+    pub(crate) fn in_file(self, file: &Path) -> ShardMap {
+        ShardMap { file: Some(file.into()), ..self }
+    }
+
+    /// The file that holds the map, if it was read from one.
+    #[cfg(feature = "map-file")]
+    pub(crate) fn file(&self) -> Option<&Path> {
+        self.file.as_deref()
     }
 
     /// The version, if the map has one.
@@ -164,6 +189,14 @@ impl ShardMap {
         self.partition.parts(keys)
     }
 }
+
+impl PartialEq for ShardMap {
+    fn eq(&self, other: &ShardMap) -> bool {
+        (&self.shards, self.version) == (&other.shards, other.version)
+    }
+}
+
+impl Eq for ShardMap {}
 
 impl fmt::Display for BadShardMap {
     fn fmt(&self, f: &mut fmt::Formatter<'_>) -> fmt::Result {

@@ -77,13 +77,16 @@ impl ShardMap {
         Ok(map.with_version(file.version))
     }
 
-    /// The map that a file holds, as [`ShardMap::from_toml`] reads it.
+    /// The map that a file holds, as [`ShardMap::from_toml`] reads it. A client that joins by it looks
+    /// at the file again while it waits, and joins by a next map that it finds there.
     ///
     /// # Errors
     ///
     /// `File`, or those of [`ShardMap::from_toml`].
     pub fn from_file(path: impl AsRef<Path>) -> Result<ShardMap, BadMapFile> {
-        ShardMap::from_toml(&std::fs::read_to_string(path).map_err(BadMapFile::File)?)
+        let path = path.as_ref();
+        let text = std::fs::read_to_string(path).map_err(BadMapFile::File)?;
+        Ok(ShardMap::from_toml(&text)?.in_file(path))
     }
 
     /// The text of this map. That of a map without a version lacks it, and cannot be read as a map.

@@ -4,6 +4,7 @@ pub(crate) mod copy;
 mod joined;
 mod journal;
 mod merged;
+pub(crate) mod name;
 mod progress;
 mod shard;
 mod transaction;
@@ -21,6 +22,7 @@ use crate::model::snapshot::Snapshot;
 use crate::store::sqlite::checksum::Checksum;
 use crate::store::sqlite::journal::Journal;
 use crate::store::sqlite::merged::Merged;
+use crate::store::sqlite::name::store_file;
 use crate::store::sqlite::progress::Known;
 use crate::store::sqlite::transaction::WriteTransaction;
 use crate::store::sqlite::version::Found;
@@ -37,6 +39,9 @@ use std::time::Duration;
 /// that keeps locks**: a disk of this machine does, and some network file systems do not. There two
 /// servers could open one file, and neither would notice: while it has the lock, SQLite does not
 /// look for the changes of others.
+///
+/// Each path here may be a symbolic link to the store. A file with two hard links is refused: both
+/// are what `operate::store_file` returns of a path.
 #[derive(Debug)]
 pub struct SqliteStore {
     connection: Connection,
@@ -185,7 +190,7 @@ impl SqliteStore {
     /// If the file can't be read or written, or is damaged; if a server runs on it.
     pub fn unseal(path: impl AsRef<Path>) -> Result<(), StoreError> {
         let flags = OpenFlags::SQLITE_OPEN_READ_WRITE | OpenFlags::SQLITE_OPEN_NO_MUTEX;
-        let connection = Connection::open_with_flags(path, flags)?;
+        let connection = Connection::open_with_flags(store_file(path)?, flags)?;
         connection.pragma_update(None, "locking_mode", "EXCLUSIVE")?;
         // If this is killed, a reader finds the file as it was, or as it is to be.
         use_log(&connection)?;
@@ -242,9 +247,10 @@ impl SqliteStore {
     }
 
     fn open_by(path: &Path, locking: &str, writes: LogWrites) -> Result<SqliteStore, StoreError> {
+        let path = store_file(path)?;
         // SQLite makes one as it looks.
-        let had_log = copy::beside(path, "-wal").exists();
-        let connection = connect(path, writes)?;
+        let had_log = copy::beside(&path, "-wal").exists();
+        let connection = connect(&path, writes)?;
         connection.busy_timeout(TIMEOUT)?;
         connection.pragma_update(None, "locking_mode", locking)?;
         // A file that is not a store is left as it is.

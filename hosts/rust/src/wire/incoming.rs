@@ -13,8 +13,8 @@ pub(crate) enum Incoming<'f> {
     Host(Option<FromClient>),
     /// A sign of the client's host.
     Sign(Sign),
-    /// A question for rows that nobody keeps.
-    Read(ReadRequest),
+    /// A question for rows that nobody keeps, or `None` if the frame is too short for one.
+    Read(Option<ReadRequest>),
 }
 
 impl Incoming<'_> {
@@ -23,8 +23,8 @@ impl Incoming<'_> {
         if !host_frame::is_of_host(frame) {
             return Incoming::Message(Message::read(frame));
         }
-        if let Some(request) = ReadRequest::read(frame) {
-            return Incoming::Read(request);
+        if ReadRequest::is_kind_of(frame) {
+            return Incoming::Read(ReadRequest::read(frame));
         }
         Sign::read(frame).map_or_else(|| Incoming::Host(FromClient::read(frame)), Incoming::Sign)
     }

@@ -46,7 +46,12 @@ impl ReadRequest {
         frame
     }
 
-    /// The content of the frame, without its length, or `None` if it is of another kind.
+    /// Whether the frame, without its length, is of this kind.
+    pub fn is_kind_of(frame: &[u8]) -> bool {
+        frame.starts_with(&[HOST, READ])
+    }
+
+    /// The content of the frame, without its length, or `None` if it is of another kind or too short.
     pub fn read(frame: &[u8]) -> Option<ReadRequest> {
         let [number, lo, hi] = numbers::read(frame.strip_prefix(&[HOST, READ])?)?;
         Some(ReadRequest { number, lo, hi })

@@ -55,6 +55,10 @@ pub struct NewStore<'p, P> {
 #[derive(Debug)]
 pub struct InUse(String);
 
+/// Whether an old store has changed is not known: its database has not answered.
+#[derive(Debug)]
+pub struct Unknown(String);
+
 /// An old store that is open.
 struct Taken<'s, 'p, P: Place> {
     old: &'s OldStore<'p, P>,
@@ -104,6 +108,21 @@ pub fn open_new<P: Place>(old: &[OldStore<'_, P>], new: &NewStore<'_, P>) -> Don
         return unseal(new);
     }
     Err(not_made(new, "").into())
+}
+
+/// Whether no old store has changed, nor will by a call that has ended: each refuses what such a call has
+/// sent once it is taken as a server that starts does. So does one that has a client by now.
+pub fn stay_unchanged<P: Place>(old: &[OldStore<'_, P>]) -> Done<bool> {
+    let mut have_changed = false;
+    for old in old {
+        match Taken::open(old) {
+            Err(error) if error.is::<InUse>() => {}
+            Err(error) => return Err(error),
+            Ok(taken) if taken.has_changed() => have_changed = true,
+            Ok(mut taken) => drop(taken.start()?),
+        }
+    }
+    Ok(!have_changed)
 }
 
 fn not_made<P: Place>(new: &NewStore<'_, P>, why: &str) -> String {
@@ -164,7 +183,8 @@ impl<'s, 'p, P: Place> Taken<'s, 'p, P> {
     }
 
     fn become_next(&mut self) -> Done {
-        commit(self.old.place, self.opened.as_mut(), &[Change::Shard(self.old.after)])
+        let made = commit(self.old.place, self.opened.as_mut(), &[Change::Shard(self.old.after)]);
+        made.map_err(|why| if why.is::<InUse>() { why } else { Unknown(why.to_string()).into() })
     }
 
     /// Whether the store has changed by this start.
@@ -211,6 +231,14 @@ impl fmt::Display for InUse {
 }
 
 impl Error for InUse {}
+
+impl fmt::Display for Unknown {
+    fn fmt(&self, f: &mut fmt::Formatter<'_>) -> fmt::Result {
+        f.write_str(&self.0)
+    }
+}
+
+impl Error for Unknown {}
 
 #[cfg(test)]
 mod tests;

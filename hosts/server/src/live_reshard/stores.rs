@@ -10,9 +10,12 @@ use crate::stores;
 use krl::{KeptShard, Snapshot};
 use std::error::Error;
 use std::thread;
-use std::time::Instant;
+use std::time::{Duration, Instant};
 
 type Done<T = ()> = Result<T, Box<dyn Error>>;
+
+/// How long the server of a store may give no answer.
+const ANSWER: Duration = Duration::from_secs(10);
 
 /// The stores of a change.
 pub struct Stores<'c> {
@@ -53,6 +56,21 @@ impl Stores<'_> {
         Ok(self.changed()?.contains(&true))
     }
 
+    /// Whether they are files, which no command changes any more once it has ended.
+    pub fn are_files(&self) -> bool {
+        self.old.iter().all(|old| matches!(old.place, StorePlace::File(_)))
+    }
+
+    /// Whether no old store has changed, nor will by a command that has ended. `end_servers` ends those of
+    /// stores in databases.
+    pub fn stay_unchanged(&self, end_servers: impl FnOnce() -> Done) -> Done<bool> {
+        if self.are_files() {
+            return Ok(!self.have_begun_to_change()?);
+        }
+        end_servers()?;
+        change::stay_unchanged(&self.old)
+    }
+
     fn changed(&self) -> Done<Vec<bool>> {
         let has_changed = |(place, old): (usize, &OldStore<'_, StorePlace>)| {
             Ok(self.shard(place)? == Some(old.after))
@@ -63,13 +81,22 @@ impl Stores<'_> {
     /// Which shard the old store at this place is of: as its server shows it if that keeps others off
     /// the store, and otherwise as the store does.
     fn shard(&self, place: usize) -> Done<Option<KeptShard>> {
-        let store = self.old[place].place;
-        let end = Instant::now() + START_OR_END;
-        while served_by(store).is_some() && Instant::now() < end {
-            // One that starts or stops does not answer.
-            if let Some(status) = json(&self.ports[place], pages::STATUS_PATH) {
+        let (store, port) = (self.old[place].place, &self.ports[place]);
+        let (begun, mut answers) = (Instant::now(), false);
+        while let Some(by) = served_by(store) {
+            // One that starts or stops does not answer, or shows no shard yet.
+            let status = json(port, pages::STATUS_PATH);
+            if let Some(status) = status.as_ref().filter(|status| status["role"] == "serves") {
                 let shard = status["shard"].as_str().and_then(|shard| shard.parse().ok());
                 return Ok(shard.map(KeptShard::open));
+            }
+            answers |= status.is_some();
+            if begun.elapsed() >= if answers { START_OR_END } else { ANSWER } {
+                let what = if answers { "does not serve" } else { "gives no answer" };
+                return Err(format!(
+                    "{store} is used by {by}, and {port} {what}: is it its status port?"
+                )
+                .into());
             }
             thread::sleep(LOOK);
         }

@@ -4,7 +4,7 @@ use crate::reshard;
 use crate::settings::StorePlace;
 use clap::{Args, Subcommand};
 use krl::Servers;
-use std::path::PathBuf;
+use std::path::{PathBuf, absolute};
 
 /// What is done with which shards.
 #[derive(Debug, Subcommand)]
@@ -61,12 +61,12 @@ pub enum LiveChange {
 /// By what servers and clients learn of a change.
 #[derive(Debug, Args)]
 pub struct LiveOptions {
-    /// The map that clients follow. It is replaced; the earlier map stays next to it, with .before
-    /// at the end of its name
+    /// The map that clients follow. It is replaced. What was begun is noted next to it, in a file
+    /// with .changes at the end of its name
     #[arg(long, value_name = "FILE")]
     pub map: PathBuf,
-    /// A command that copies the map to other machines. It is run after each change of the file,
-    /// whose name is in `KRL_MAP`
+    /// A command that gives the next map to other machines. It is run before the file is replaced:
+    /// `KRL_MAP` names a file with the next map, and `KRL_MAP_BEFORE` the one that is replaced
     #[arg(long, value_name = "COMMAND")]
     pub publish: Option<String>,
     /// The status port of a server whose shard changes. A merge has two
@@ -86,6 +86,10 @@ pub struct LiveOptions {
     /// How many seconds clients may take to leave. A dead one counts as left when its lease ends
     #[arg(long, value_name = "SECONDS", default_value_t = 60)]
     pub wait: u64,
+    /// Take back what a command with the same words has begun, if no store has changed yet, and start
+    /// the old servers
+    #[arg(long)]
+    pub undo: bool,
 }
 
 impl LiveChange {
@@ -95,5 +99,39 @@ impl LiveChange {
             | LiveChange::Merge { live, .. }
             | LiveChange::Move { live, .. } => live,
         }
+    }
+
+    /// What is asked for, whatever the folder is in which it is asked for, without how it is done.
+    pub fn words(&self) -> String {
+        match self {
+            LiveChange::Split { store, at, new_store, servers, .. } => {
+                let (store, new) = (whole(store), whole(new_store));
+                format!("split {store} {at} {new} --servers {servers}")
+            }
+            LiveChange::Merge { lower, upper, new_store, at, .. } => {
+                let [lower, upper, new] = [lower, upper, new_store].map(whole);
+                format!("merge {lower} {upper} {new} --at {at}")
+            }
+            LiveChange::Move { store, new_store, first, servers, .. } => {
+                let (store, new) = (whole(store), whole(new_store));
+                format!("move {store} {new} --first {first} --servers {servers}")
+            }
+        }
+    }
+
+    /// A key of each shard that changes.
+    pub fn keys(&self) -> Vec<u64> {
+        match self {
+            LiveChange::Merge { at, .. } => vec![at - 1, *at],
+            LiveChange::Split { at: key, .. } | LiveChange::Move { first: key, .. } => vec![*key],
+        }
+    }
+}
+
+/// Where a store is, from any folder.
+fn whole(place: &StorePlace) -> String {
+    match place {
+        StorePlace::File(path) => absolute(path).unwrap_or(path.clone()).display().to_string(),
+        place => place.to_string(),
     }
 }

@@ -70,6 +70,8 @@ pub struct World<'e> {
     stores: BTreeMap<String, String>,
     /// The map that servers watch.
     watched: String,
+    /// The map that commands change.
+    pub changed: String,
 }
 
 static COUNT: AtomicU32 = AtomicU32::new(0);
@@ -110,6 +112,7 @@ impl<'e> World<'e> {
             places: Vec::new(),
             stores: BTreeMap::new(),
             watched: watched.into(),
+            changed: "map.toml".into(),
         };
         for (name, script) in [("start.sh", START), ("stop.sh", STOP)] {
             let server = format!("SERVER='{}'\n", env!("CARGO_BIN_EXE_krl-server"));
@@ -202,7 +205,17 @@ impl<'e> World<'e> {
         assert!(Command::new("sh").args(["-c", &command]).status().unwrap().success());
     }
 
-    fn stop(&mut self, name: &str) {
+    /// Gives the files of a store another name.
+    pub fn rename(&self, from: &str, to: &str) {
+        for file in fs::read_dir(self.path("")).unwrap() {
+            let name = file.unwrap().file_name().into_string().unwrap();
+            if let Some(end) = name.strip_prefix(from).filter(|end| *end != ".lock") {
+                fs::rename(self.path(&name), self.path(&format!("{to}{end}"))).unwrap();
+            }
+        }
+    }
+
+    pub fn stop(&mut self, name: &str) {
         let command = self.stop_command(name);
         assert!(Command::new("sh").args(["-c", &command]).status().unwrap().success());
     }
@@ -216,7 +229,7 @@ impl<'e> World<'e> {
         for name in old {
             command.args(["--status", &self.status(name)]);
         }
-        command.args(["--map", "map.toml", "--stop", &stop.join(" && ")]);
+        command.args(["--map", &self.changed, "--stop", &stop.join(" && ")]);
         command.args(["--start", &start.join(" && "), "--start-new", &self.start_command(new)]);
         command
     }
@@ -304,6 +317,22 @@ impl Drop for World<'_> {
     fn drop(&mut self) {
         self.stop_all();
     }
+}
+
+/// The same command with another value of an option, or with an option that it lacks.
+pub fn with(command: &Command, option: &str, value: &str) -> Command {
+    let mut other = program();
+    other.current_dir(command.get_current_dir().unwrap());
+    let mut words = command.get_args();
+    while let Some(word) = words.next() {
+        if word == option {
+            words.next();
+        } else {
+            other.arg(word);
+        }
+    }
+    other.args([option, value]);
+    other
 }
 
 /// Runs the command, which ends well.

@@ -22,16 +22,10 @@ impl Link {
         self.finish(asked, end)
     }
 
-    /// Waits until the client has joined, for the timeout at most, and no longer once the server
-    /// gives a reason for which the caller gives up.
-    pub fn join(
-        &self,
-        timeout: Duration,
-        gives_up: impl Fn(Refusal, Instant) -> bool + Send + 'static,
-    ) -> Result<(), ErrorKind> {
-        let end = Instant::now() + timeout;
-        let asked = self.call(|session| session.join(Box::new(gives_up)));
-        self.finish(asked, end)
+    /// Begins to wait until the client has joined, and no longer once the server gives a reason for
+    /// which the caller gives up.
+    pub fn join(&self, gives_up: impl Fn(Refusal, Instant) -> bool + Send + 'static) -> Asked<()> {
+        self.call(|session| session.join(Box::new(gives_up)))
     }
 
     /// Asks for something, and waits for nothing.
@@ -39,14 +33,26 @@ impl Link {
         self.call(|session| ask(session.state()))
     }
 
-    /// Waits until the deadline for the answer to what was begun.
+    /// Waits until the deadline for the answer to what was begun. Then nobody waits for it any more.
+    pub fn finish<T>(&self, asked: Asked<T>, end: Instant) -> Result<T, ErrorKind> {
+        let answered = self.answered_by(&asked, end);
+        let Asked { id, answer } = asked;
+        answered.unwrap_or_else(|| {
+            let why = self.with_session(|session| session.give_up(id));
+            // It may have come meanwhile.
+            answer.try_recv().unwrap_or(Err(why))
+        })
+    }
+
+    /// The answer to what was begun, if it comes by this moment.
     ///
     /// The caller reads the connection itself until the first tick. The thread of the connection
     /// sends again what is not answered. It may sleep until a tick of a client that was asked
     /// nothing: so one who waits for longer than until the first tick wakes it once.
-    pub fn finish<T>(&self, asked: Asked<T>, end: Instant) -> Result<T, ErrorKind> {
-        let Asked { id, answer } = asked;
-        if let Some(answered) = self.read_until(&answer, end.min(Instant::now() + BUSY_TICK)) {
+    pub fn answered_by<T>(&self, asked: &Asked<T>, end: Instant) -> Option<Result<T, ErrorKind>> {
+        let answer = &asked.answer;
+        let answered = self.read_until(answer, end.min(Instant::now() + BUSY_TICK));
+        if answered.is_some() {
             return answered;
         }
         let left = until(end);
@@ -56,14 +62,11 @@ impl Link {
             self.hurry();
             answered = answer.recv_timeout(until(end));
         }
-        answered.unwrap_or_else(|why| match why {
-            RecvTimeoutError::Disconnected => Err(ErrorKind::Stopped),
-            RecvTimeoutError::Timeout => {
-                let why = self.with_session(|session| session.give_up(id));
-                // It may have come meanwhile.
-                answer.try_recv().unwrap_or(Err(why))
-            }
-        })
+        match answered {
+            Ok(answered) => Some(answered),
+            Err(RecvTimeoutError::Disconnected) => Some(Err(ErrorKind::Stopped)),
+            Err(RecvTimeoutError::Timeout) => None,
+        }
     }
 
     /// Reads the connection until the answer has come, if no other caller does so: then no thread

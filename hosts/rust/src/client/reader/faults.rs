@@ -56,6 +56,11 @@ impl Faults {
         self.last = end;
     }
 
+    /// Whether a server has answered once.
+    pub fn have_answer(&self) -> bool {
+        self.has_answer
+    }
+
     /// Whether another attempt at an only server would end in the same way. By a map that is followed
     /// the server may be about to start, or to be of another shard.
     pub fn are_final(&self, standing: Standing) -> bool {

@@ -48,6 +48,11 @@ impl ServerReader {
         &self.servers
     }
 
+    /// Whether a server has answered it once.
+    pub fn has_answer(&self) -> bool {
+        self.faults.have_answer()
+    }
+
     /// Asks whether the server answers, for the row of the first of these keys.
     pub fn connect(&mut self, keys: &Range<u64>, until: &mut Until<'_>) -> Result<(), ErrorKind> {
         self.page(keys.start, keys.start + 1, until).map(drop)

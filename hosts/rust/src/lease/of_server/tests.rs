@@ -184,6 +184,37 @@ fn who_makes_room_answers_nothing_any_more() {
 }
 
 #[test]
+fn who_is_over_is_evicted_before_its_lease_ends() {
+    let mut table = table(record(10, 1 << 5), Some(ten()));
+    for client in [3, 5] {
+        assert_eq!(table.evict(client, at(1)), Ok(None));
+        table.is_over(client, at(1)).unwrap();
+        assert_eq!(table.evict(client, at(1)), Ok(Some(8)));
+        assert_eq!(table.sign(1, sign(client, 7, 10 * SECOND), at(1)), Err(Code::Gone));
+        table.succeed(client, 8).unwrap();
+        table.leave(client).unwrap();
+    }
+    assert_eq!(table.left(at(1)), []);
+    assert_eq!(terms_after_commit(&mut table), [], "nobody asked for terms");
+    table.is_over(4, at(1)).unwrap();
+    assert_eq!(table.evict(4, at(1)), Ok(None), "it has left");
+    assert_eq!(table.is_over(64, at(1)), Ok(()), "no client has this number");
+}
+
+#[test]
+fn the_lease_decides_if_a_greater_incarnation_waits_that_knows_nothing() {
+    let mut table = table(record(10, 1 << 5), Some(ten()));
+    for client in [3, 5] {
+        table.sign(1, sign(client, 9, 0), at(1)).unwrap();
+        table.is_over(client, at(1)).unwrap();
+    }
+    assert_eq!(terms_after_commit(&mut table), [(1, 9), (1, 9)], "both get their terms");
+    assert_eq!(table.evict(3, before(12)), Ok(None));
+    assert_eq!(table.evict(3, at(12)), Ok(Some(8)));
+    assert_eq!(table.evict(5, at(1)), Ok(Some(8)), "it had no lease that ends");
+}
+
+#[test]
 fn a_client_without_signs_replaces_an_unsigned_one() {
     let mut table = table(record(10, 0), Some(ten()));
     assert!(table.replaces_unsigned(3, 8));

@@ -81,7 +81,7 @@ impl World {
     }
 
     fn step(&mut self) {
-        match self.dice.below(20) {
+        match self.dice.below(21) {
             0..=3 => self.time += self.dice.below(SECOND),
             4 => self.connect(),
             5 | 6 => self.send_sign(),
@@ -92,6 +92,7 @@ impl World {
             13 => self.restart(),
             14 => self.revise(),
             15 => self.is_cut = !self.is_cut,
+            16 if self.dice.below(30) == 0 => self.end_process(),
             _ => self.evict(),
         }
         self.look();
@@ -116,6 +117,16 @@ impl World {
         if let Some(serving) = &mut self.serving {
             (serving.is_connected, serving.sends_hello) = (false, false);
         }
+    }
+
+    /// The client's process ends, as its server learns, and another one starts that knows nothing.
+    fn end_process(&mut self) {
+        let (now, own) = (self.server_clock(), self.lease.incarnation());
+        let is_registered = self.record.is_some_and(|record| record.incarnation == own);
+        if let Some(serving) = self.serving.as_mut().filter(|_| is_registered) {
+            serving.table.is_over(CLIENT, now).unwrap();
+        }
+        self.begin_again();
     }
 
     fn send_sign(&mut self) {

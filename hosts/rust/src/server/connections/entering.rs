@@ -17,8 +17,8 @@ impl Connections {
         self.next += 1;
         event_log::opened(&At { connection: number, peer: address });
         let connection = Connection::new(entry, self.longest, now);
-        let peer =
-            Peer { connection, address, opened: now, is_in_ready: false, is_in_sending: false };
+        let (process, is_in_ready, is_in_sending) = (None, false, false);
+        let peer = Peer { connection, address, process, opened: now, is_in_ready, is_in_sending };
         self.open.insert(number, peer);
         let gone = self.strangers.add(number, address.machine(), now);
         self.close_one(gone, CloseReason::StrangerCrowded);

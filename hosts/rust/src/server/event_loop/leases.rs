@@ -4,6 +4,7 @@ use crate::lease::boot_clock::Moment;
 use crate::lease::clocks::Now;
 use crate::lease::of_server::LeaseTable;
 use crate::lease::terms::{Answer, Sign};
+use crate::log::event_log::Ended;
 use crate::model::change::Change;
 use crate::model::client_number::ClientNumber;
 use crate::model::code::Code;
@@ -119,19 +120,26 @@ impl EventLoop {
         Ok(())
     }
 
-    /// Evicts each client whose lease has ended, and stores less of leases if less is enough now.
-    pub(super) fn evict_silent(&mut self, now: Now) -> Result<(), ServeError> {
+    /// Evicts each client whose lease or process has ended, and stores less of leases if less is
+    /// enough now.
+    pub(super) fn evict_ended(&mut self, now: Now) -> Result<(), ServeError> {
         for client in ClientNumber::all() {
+            let registered = self.leases.registered(client);
+            let mut ended = Ended::Lease;
+            if self.processes.is_dead(client, registered) {
+                self.leases.is_over(client, boot(now)?).map_err(ServeError::Refused)?;
+                ended = Ended::Process;
+            }
             let successor = self.leases.evict(client, boot(now)?).map_err(ServeError::Refused)?;
-            successor.map_or(Ok(()), |successor| self.evict(client, successor))?;
+            successor.map_or(Ok(()), |successor| self.evict(client, successor, ended))?;
         }
         let now = boot(now)?;
         self.change_leases(|leases| leases.revise(now))
     }
 
     /// Gives the library what an operator would send: a Hello of the next incarnation, and its Bye.
-    fn evict(&mut self, client: u8, successor: u64) -> Result<(), ServeError> {
-        self.log.evicts(client, successor);
+    fn evict(&mut self, client: u8, successor: u64, ended: Ended) -> Result<(), ServeError> {
+        self.log.evicts(client, successor, ended);
         for message in message::eviction(client, successor) {
             match self.server.step(&message) {
                 Ok(None) => {}

@@ -105,13 +105,13 @@ impl EventLoop {
         &mut self.reads
     }
 
-    /// Takes a question. The answer leaves after the commit that begins next.
-    pub(super) fn receive_read(&mut self, connection: u64, request: ReadRequest) {
-        if request.lo >= request.hi {
-            self.connections.end(connection, CloseReason::BadMessage);
-            return;
+    /// Takes a question. The answer leaves after the commit that begins next. A frame that is too
+    /// short for one, or whose range has no keys, ends the connection.
+    pub(super) fn receive_read(&mut self, connection: u64, request: Option<ReadRequest>) {
+        match request {
+            Some(request) if request.lo < request.hi => self.reads.put(connection, request),
+            _ => self.connections.end(connection, CloseReason::BadMessage),
         }
-        self.reads.put(connection, request);
     }
 
     /// Answers the questions that came before the commit that was just made. The library refuses to

@@ -4,6 +4,7 @@ use crate::model::snapshot::Snapshot;
 use crate::store::StoreError;
 use crate::store::sqlite::checksum::{self, Checksum, CutOff};
 use crate::store::sqlite::copy::part::Part;
+use crate::store::sqlite::name::store_file;
 use crate::store::sqlite::version::{self, Found, VERSION, look};
 use crate::store::sqlite::{self, SqliteStore};
 use rusqlite::config::DbConfig;
@@ -14,7 +15,7 @@ use std::io::{self, ErrorKind, Read};
 use std::os::unix::ffi::OsStrExt;
 use std::path::{Path, PathBuf};
 
-mod part;
+pub(super) mod part;
 
 /// What a file has that is only read.
 #[derive(Clone, Debug, PartialEq, Eq)]
@@ -54,7 +55,7 @@ impl SqliteStore {
     ///
     /// If there is no such file, it is no store, or its version is unknown; if a server runs on it.
     pub fn read(path: impl AsRef<Path>) -> Result<StoreFile, StoreError> {
-        let connection = open_to_read(path.as_ref())?;
+        let connection = open_to_read(&store_file(path)?)?;
         let version = match look(&connection)? {
             Found::New => return Err(StoreError::failed("the file is empty: it is not a store")),
             Found::Bare => return Err(StoreError::failed(version::BARE)),
@@ -101,7 +102,7 @@ impl SqliteStore {
     /// If there is another file of that name already, or one that SQLite would take for a log of
     /// the new store; or if it can't be written.
     pub fn create(path: impl AsRef<Path>, snapshot: &Snapshot) -> Result<(), StoreError> {
-        let path = path.as_ref();
+        let path = &store_file(path)?;
         if is_made_of(path, snapshot) {
             // The call that made it may have been killed before this, and one that unsealed it may
             // have left a log.
@@ -370,6 +371,43 @@ pub(crate) mod tests {
         let names = folder.names();
         assert_eq!(SqliteStore::read(&file).unwrap().snapshot.epoch, 7);
         assert_eq!(folder.names(), names);
+    }
+
+    #[test]
+    fn a_store_is_the_same_by_a_symbolic_link() {
+        let folder = Folder::new("link");
+        let [file, killed, link] =
+            ["store.db", "killed.db", "link"].map(|name| folder.0.join(name));
+        std::os::unix::fs::symlink("store.db", &link).unwrap();
+        let mut store = SqliteStore::open(&link).unwrap();
+        store.commit(&[Change::Started { epoch: 7 }]).unwrap();
+        assert!(SqliteStore::read(&link).is_err(), "a server runs on it");
+        // What a server leaves after that is killed: its log is not in the file yet.
+        std::fs::copy(&file, &killed).unwrap();
+        std::fs::copy(beside(&file, "-wal"), beside(&killed, "-wal")).unwrap();
+        std::fs::remove_file(&link).unwrap();
+        std::os::unix::fs::symlink(&killed, &link).unwrap();
+        assert_eq!(SqliteStore::read(&link).unwrap().snapshot.epoch, 7);
+        assert_eq!(SqliteStore::open(&link).unwrap().load().unwrap().epoch, 7);
+        let refused = SqliteStore::create(&link, &snapshot()).unwrap_err().to_string();
+        assert!(refused.contains("there is a file"), "{refused}");
+    }
+
+    #[test]
+    fn a_store_with_two_names_is_refused_by_each() {
+        let folder = Folder::new("two-names");
+        let [file, other] = ["store.db", "other.db"].map(|name| folder.0.join(name));
+        SqliteStore::create(&file, &snapshot()).unwrap();
+        std::fs::hard_link(&file, &other).unwrap();
+        for name in [&file, &other] {
+            let refused = [SqliteStore::read(name).map(drop), SqliteStore::open(name).map(drop)];
+            for refused in refused.map(|it| it.unwrap_err().to_string()) {
+                assert!(refused.contains("by a hard link"), "{refused}");
+            }
+        }
+        assert_eq!(folder.names(), ["other.db", "store.db"]);
+        std::fs::remove_file(&other).unwrap();
+        assert!(SqliteStore::read(&file).is_ok());
     }
 
     #[test]

@@ -321,3 +321,28 @@ fn stores_of_other_shards_and_stores_in_use_stay_as_they_are() {
     }
     assert_eq!(format!("{:?}", world.0.lock().unwrap().kept), before);
 }
+
+#[test]
+fn a_change_that_is_given_up_is_not_made_later() {
+    let world = World::new();
+    world.allow(usize::MAX);
+    let place = world.named("b");
+    let after = KeptShard::sealed(bounds("10..30@2"));
+    let old = [OldStore { place: &place, before: bounds("10..30@1"), after }];
+    let mut killed = Taken::open(&old[0]).unwrap();
+    killed.start().unwrap();
+    assert!(stay_unchanged(&old).unwrap());
+    // What it has sent comes only now.
+    assert!(killed.become_next().unwrap_err().is::<InUse>());
+    move_away(&world, "c").unwrap();
+    assert!(!stay_unchanged(&old).unwrap());
+}
+
+#[test]
+fn a_change_whose_commit_is_not_answered_may_have_been_made() {
+    for (steps, is_unknown) in [(0, false), (1, false), (2, true)] {
+        let world = World::new();
+        world.allow(steps);
+        assert_eq!(move_away(&world, "c").unwrap_err().is::<Unknown>(), is_unknown, "{steps}");
+    }
+}

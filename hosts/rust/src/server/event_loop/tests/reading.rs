@@ -116,11 +116,20 @@ fn a_turn_takes_no_readers_next_to_clients_that_have_had_less_time() {
 }
 
 #[test]
-fn a_question_without_keys_ends_its_connection() {
-    let (mut serving, mut peer, _) = event_loop();
-    peer.write_all(&ReadRequest { hi: 0, ..QUESTION }.frame()).unwrap();
-    while serving.events.connections.count() > 0 {
-        assert!(serving.turn().unwrap());
+fn a_question_without_keys_or_cut_off_ends_its_connection() {
+    let without_keys = ReadRequest { hi: 0, ..QUESTION }.frame();
+    let cut_off = |length: u8| {
+        let content = &QUESTION.frame()[8..][..length.into()];
+        [&[length, 0, 0, 0, 0, 0, 0, 0], content].concat()
+    };
+    for question in [without_keys].into_iter().chain((2..26).map(cut_off)) {
+        let (mut serving, mut peer, _) = event_loop();
+        peer.write_all(&[&HELLO[..], &question].concat()).unwrap();
+        let end = Instant::now() + Duration::from_secs(10);
+        while serving.events.connections.count() > 0 {
+            assert!(Instant::now() < end, "{question:?}");
+            assert!(serving.turn().unwrap());
+        }
+        assert_eq!(pages(&mut peer), []);
     }
-    assert_eq!(pages(&mut peer), []);
 }

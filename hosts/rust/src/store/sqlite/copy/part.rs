@@ -1,10 +1,10 @@
 //! A file that is written under a name of its own, and then takes another one.
 use super::{beside, exists};
 use crate::store::StoreError;
-use std::fs::{File, OpenOptions};
+use std::fs::{DirEntry, File, Metadata, OpenOptions};
 use std::hash::{BuildHasher, Hasher, RandomState};
 use std::io::{self, ErrorKind};
-use std::os::unix::fs::OpenOptionsExt;
+use std::os::unix::fs::{MetadataExt, OpenOptionsExt};
 use std::path::{Path, PathBuf};
 
 /// How the name of a part ends. Between the other name and this there are digits.
@@ -78,14 +78,29 @@ impl Drop for Part {
 
 /// Removes the parts of this file that nobody writes any more.
 pub(super) fn remove_leftovers(path: &Path) {
-    let (Some(folder), Some(name)) = (path.parent(), path.file_name()) else { return };
-    let folder = if folder.as_os_str().is_empty() { Path::new(".") } else { folder };
-    let Ok(found) = std::fs::read_dir(folder) else { return };
-    for entry in found.flatten() {
-        if is_part(entry.file_name().as_encoded_bytes(), name.as_encoded_bytes()) {
-            remove_if_unlocked(&entry.path());
-        }
+    for part in parts_of(path) {
+        remove_if_unlocked(&part);
     }
+}
+
+/// How many parts of this file are the file itself: calls that gave it its name, and were cut off
+/// before they removed their own.
+pub(in crate::store::sqlite) fn names_of(path: &Path, file: &Metadata) -> u64 {
+    let is_same = |part: &PathBuf| {
+        let part = part.symlink_metadata();
+        part.is_ok_and(|part| (part.dev(), part.ino()) == (file.dev(), file.ino()))
+    };
+    parts_of(path).filter(is_same).map(|_| 1).sum()
+}
+
+/// The parts of this file that are there.
+fn parts_of(path: &Path) -> impl Iterator<Item = PathBuf> {
+    let folder = path.parent().map(Path::read_dir).and_then(Result::ok);
+    let name = path.file_name().unwrap_or_default().to_os_string();
+    let is_part = move |entry: &DirEntry| {
+        is_part(entry.file_name().as_encoded_bytes(), name.as_encoded_bytes())
+    };
+    folder.into_iter().flatten().flatten().filter(is_part).map(|entry| entry.path())
 }
 
 /// Whether a name is that of a part of the file of the other name.

@@ -1,4 +1,4 @@
-//! The map that a reader follows.
+//! The map that a reader follows, or by which a client joins.
 use crate::client::standing::Standing;
 #[cfg(feature = "map-file")]
 use crate::client::watched_map::WatchedMap;
@@ -6,9 +6,9 @@ use crate::shards::map::ShardMap;
 #[cfg(feature = "map-file")]
 use std::num::NonZeroU64;
 
-/// The map that a reader follows, if it follows one.
+/// The map that a reader follows, or by which a client joins, if it is in a file.
 #[derive(Debug, Default)]
-pub(super) struct FollowedMap {
+pub(crate) struct FollowedMap {
     #[cfg(feature = "map-file")]
     file: Option<(WatchedMap, NonZeroU64)>,
     /// The next map, if it was found.
@@ -16,13 +16,26 @@ pub(super) struct FollowedMap {
 }
 
 impl FollowedMap {
-    /// That in a file, by a reader whose map is of this version.
+    /// That in the file from which this map was read, if it was.
+    #[cfg_attr(
+        not(feature = "map-file"),
+        allow(unused_variables, reason = "no map has a file then")
+    )]
+    pub fn of_file_of(map: &ShardMap) -> FollowedMap {
+        #[cfg(feature = "map-file")]
+        if let Some((file, version)) = map.file().zip(map.version()) {
+            return FollowedMap::of(WatchedMap::new(file.into()), version);
+        }
+        FollowedMap::default()
+    }
+
+    /// That in a file, by one whose map is of this version.
     #[cfg(feature = "map-file")]
     pub fn of(file: WatchedMap, version: NonZeroU64) -> FollowedMap {
         FollowedMap { file: Some((file, version)), next: None }
     }
 
-    /// Where the keys of a server are, of which the reader knows by its map.
+    /// Where the keys of a server are that is known by the map.
     #[cfg_attr(
         not(feature = "map-file"),
         allow(clippy::unused_self, reason = "it follows no map then")
@@ -38,7 +51,13 @@ impl FollowedMap {
         Standing::Fixed
     }
 
-    /// The next map, by which the reader continues.
+    /// The next map, if its file has one.
+    pub fn look(&mut self) -> Option<ShardMap> {
+        self.standing();
+        self.take_next()
+    }
+
+    /// The next map, by which to continue.
     pub fn take_next(&mut self) -> Option<ShardMap> {
         let next = self.next.take()?;
         #[cfg(feature = "map-file")]

@@ -1,0 +1,75 @@
+//! Files that are replaced at once: whoever reads one finds it whole, also after a loss of power.
+use std::ffi::OsString;
+use std::fs::{self, File};
+use std::io::{self, Write};
+use std::path::{Path, PathBuf};
+
+/// The next content of a file, which is on the disk under a name of its own until it takes its place.
+/// If it does not, it is removed.
+pub struct NextFile {
+    path: PathBuf,
+    part: PathBuf,
+}
+
+impl NextFile {
+    /// Writes the next content of this file. If a link has this name, it is that of the file to which
+    /// the link leads.
+    pub fn write(path: &Path, text: &str) -> io::Result<NextFile> {
+        let path = path.canonicalize().unwrap_or_else(|_| path.into());
+        let part = beside(&path, &format!(".{}.tmp", std::process::id()));
+        let next = NextFile { path, part };
+        let mut file = File::create(&next.part)?;
+        file.write_all(text.as_bytes())?;
+        file.sync_all()?;
+        Ok(next)
+    }
+
+    /// Where it is until it takes its place.
+    pub fn name(&self) -> &Path {
+        &self.part
+    }
+
+    pub fn take_its_place(self) -> io::Result<()> {
+        fs::rename(&self.part, &self.path)?;
+        sync_folder_of(&self.path)
+    }
+}
+
+impl Drop for NextFile {
+    fn drop(&mut self) {
+        // It is not there if it has taken its place.
+        let _ = fs::remove_file(&self.part);
+    }
+}
+
+/// Returns when the disk has the names of the files in the folder of this one.
+pub fn sync_folder_of(path: &Path) -> io::Result<()> {
+    let folder = path.parent().filter(|folder| !folder.as_os_str().is_empty());
+    File::open(folder.unwrap_or(Path::new(".")))?.sync_all()
+}
+
+/// The file whose name has this end in addition.
+pub fn beside(path: &Path, end: &str) -> PathBuf {
+    let mut name = OsString::from(path);
+    name.push(end);
+    name.into()
+}
+
+#[cfg(test)]
+mod tests {
+    use super::*;
+
+    #[test]
+    fn what_a_link_leads_to_is_replaced_and_nothing_else_stays() {
+        let folder = tempfile::tempdir().unwrap();
+        let (file, link) = (folder.path().join("file"), folder.path().join("link"));
+        fs::write(&file, "old").unwrap();
+        std::os::unix::fs::symlink("file", &link).unwrap();
+        drop(NextFile::write(&link, "given up").unwrap());
+        assert_eq!(fs::read_to_string(&file).unwrap(), "old");
+        NextFile::write(&link, "new").unwrap().take_its_place().unwrap();
+        assert!(link.is_symlink());
+        assert_eq!(fs::read_to_string(&file).unwrap(), "new");
+        assert_eq!(fs::read_dir(folder.path()).unwrap().count(), 2);
+    }
+}
