@@ -1,4 +1,4 @@
-/* Where the fields of krl.h stand, as `hosts/rust/src/proved/ffi.rs` has them too. It is compiled and not run. */
+/* Where the fields of krl.h stand, as `hosts/rust/src/ffi/declared.rs` has them too. It is compiled and not run. */
 #include "krl.h"
 
 #define SIZE(type, size) _Static_assert(sizeof(type) == (size), #type " has another size")

@@ -1,11 +1,10 @@
 //! What the tables of a process share: connections to the database, and one client of krl.
 use crate::PostgresAddress;
 use crate::error::ReadError;
-use crate::fault_note::FaultNote;
-use crate::loader::{Errand, Loader};
-use crate::locks::JoinedLocks;
-use crate::session::{Ending, Fate, Session};
-use crate::table::Table;
+use crate::loader::Loader;
+use crate::locks::KrlPlace;
+use crate::shared::Shared;
+use crate::table::{Errand, Table};
 use krl::TlsConfig;
 use krl_postgres::Connector;
 use std::convert::Infallible;
@@ -14,11 +13,10 @@ use std::fs;
 use std::io;
 use std::ops::Range;
 use std::path::{Path, PathBuf};
-use std::sync::atomic::{AtomicU64, Ordering};
 use std::sync::mpsc::{Receiver, SyncSender, sync_channel};
-use std::sync::{Arc, Mutex, MutexGuard, PoisonError};
+use std::sync::{Arc, Mutex, PoisonError};
 use std::thread;
-use std::time::{Duration, Instant};
+use std::time::Duration;
 
 /// How many bytes of rows of a table are kept, by default.
 const MEMORY: usize = 64 << 20;
@@ -31,12 +29,6 @@ const NUMBERS: Range<u8> = 0..56;
 
 /// How long a cache that is closed waits for its loader.
 const LAST_LOAD: Duration = Duration::from_secs(1);
-
-/// This many connections are kept for later calls.
-const MOST_IDLE: usize = 16;
-
-/// How long a read that is late waits until the database has ended its statement.
-const CANCEL: Duration = Duration::from_secs(1);
 
 /// This many misses wait for the loader. It learns of no further ones.
 const MOST_ERRANDS: usize = 256;
@@ -60,29 +52,6 @@ pub struct CacheBuilder {
     krl: KrlPlace,
     memory: usize,
     timeout: Duration,
-}
-
-/// As which client this process joins krl.
-#[derive(Debug)]
-pub(crate) struct KrlPlace {
-    pub numbers: Range<u8>,
-    pub lock_folder: PathBuf,
-    pub tls: Option<TlsConfig>,
-}
-
-/// What all tables use.
-pub(crate) struct Shared {
-    connector: Connector,
-    pub locks: JoinedLocks,
-    pub memory: usize,
-    timeout: Duration,
-    idle: Mutex<Vec<Session>>,
-    /// Connections whose statements the database has not ended yet.
-    late: Mutex<Vec<Ending>>,
-    /// How many definitions of tables were found.
-    definitions: AtomicU64,
-    /// Why the rows of no table are kept.
-    pub fault: FaultNote,
 }
 
 impl CacheBuilder {
@@ -128,16 +97,7 @@ impl CacheBuilder {
         make_lock_folder(&krl.lock_folder)?;
         let connector = Connector::new(&database, user.as_ref());
         let connector = connector.map_err(ReadError::without_code)?;
-        let shared = Arc::new(Shared {
-            connector,
-            locks: JoinedLocks::default(),
-            memory,
-            timeout,
-            idle: Mutex::default(),
-            late: Mutex::default(),
-            definitions: AtomicU64::new(0),
-            fault: FaultNote::default(),
-        });
+        let shared = Arc::new(Shared::new(connector, memory, timeout));
         let (errands, received) = sync_channel(MOST_ERRANDS);
         let loader = Loader::new(Arc::clone(&shared), krl, received);
         let thread = thread::Builder::new().name("krl-cache loader".to_string());
@@ -203,92 +163,6 @@ impl Cache {
     }
 }
 
-impl Shared {
-    /// Asks the database over a connection that is free, and once again over a new one if that has
-    /// ended, or its statements are those of other columns. What is refused or late is not asked
-    /// again.
-    pub fn ask<T>(
-        &self,
-        ask: impl Fn(&mut Session) -> Result<T, ReadError>,
-    ) -> Result<T, ReadError> {
-        let end = Instant::now() + self.timeout;
-        if let Some(mut session) = pop(&self.idle) {
-            session.set_end(end);
-            let answer = ask(&mut session);
-            let fate = session.fate();
-            self.put_back(session, fate);
-            if answer.is_ok() || !is_asked_again(fate) {
-                return answer;
-            }
-        }
-        self.wait_for_late(end)?;
-        let mut session = Session::connect(&self.connector, end)?;
-        let answer = ask(&mut session);
-        let fate = session.fate();
-        self.put_back(session, fate);
-        answer
-    }
-
-    /// Keeps a connection for later calls if it may be used again.
-    fn put_back(&self, session: Session, fate: Fate) {
-        match fate {
-            Fate::Usable => {
-                let mut idle = lock(&self.idle);
-                if idle.len() < MOST_IDLE {
-                    idle.push(session);
-                }
-            }
-            Fate::Outdated => {}
-            // The others were made before it.
-            Fate::Ended => lock(&self.idle).clear(),
-            Fate::Late => self.end_late(session.give_up(), Instant::now() + CANCEL),
-        }
-    }
-
-    /// Has the database end the statement of a connection. If that takes longer, the connection may
-    /// be lost, and so may the others: it is kept until that is known, and they are not.
-    fn end_late(&self, mut late: Ending, by: Instant) {
-        if !late.has_ended(&self.connector, by) && Instant::now() < late.lost {
-            lock(&self.late).push(late);
-            lock(&self.idle).clear();
-        }
-    }
-
-    /// **No connection is made as long as another one waits in the database for a read that was
-    /// late**, unless that connection is lost: so a database that is slow gets no more of them than
-    /// threads read at once.
-    fn wait_for_late(&self, end: Instant) -> Result<(), ReadError> {
-        let Some(late) = pop(&self.late) else { return Ok(()) };
-        let by = end.min(late.lost);
-        self.end_late(late, by);
-        if Instant::now() < end { Ok(()) } else { Err(ReadError::late()) }
-    }
-
-    /// Closes the connections that are lost: the database ends what it did for them.
-    pub fn drop_lost(&self) {
-        let now = Instant::now();
-        lock(&self.late).retain(|late| now < late.lost);
-    }
-
-    /// A number that no other definition has.
-    pub fn next_definition(&self) -> u64 {
-        self.definitions.fetch_add(1, Ordering::Relaxed)
-    }
-}
-
-/// Whether another connection may answer what one has not that ends so.
-fn is_asked_again(fate: Fate) -> bool {
-    matches!(fate, Fate::Ended | Fate::Outdated)
-}
-
-fn pop<T>(list: &Mutex<Vec<T>>) -> Option<T> {
-    lock(list).pop()
-}
-
-fn lock<T>(mutex: &Mutex<T>) -> MutexGuard<'_, T> {
-    mutex.lock().unwrap_or_else(PoisonError::into_inner)
-}
-
 /// Makes the folder of the lock files, unless it is there.
 fn make_lock_folder(folder: &Path) -> io::Result<()> {
     fs::create_dir_all(folder).map_err(|error| {
@@ -299,7 +173,7 @@ fn make_lock_folder(folder: &Path) -> io::Result<()> {
 
 impl fmt::Debug for Cache {
     fn fmt(&self, f: &mut fmt::Formatter<'_>) -> fmt::Result {
-        let database = self.shared.connector.address();
+        let database = self.shared.address();
         f.debug_struct("Cache").field("database", &database).finish_non_exhaustive()
     }
 }

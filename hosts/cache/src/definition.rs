@@ -3,7 +3,8 @@ use crate::error::ReadError;
 use crate::held::{self, Held, MarkTenures};
 use crate::key::{Key, KeyValue, Stripe, Stripes};
 use crate::locks::{CLUSTER_MARK, Locks, Marks};
-use crate::memory::{Memory, Rows};
+use crate::memory::Memory;
+use crate::rows::{Loaded, Rows};
 use crate::session::{Quiet, Session};
 use crate::sql::{CACHED, KeyType, QUIET_DEFINITION, Selection, TableSql};
 use std::cell::LazyCell;
@@ -49,9 +50,6 @@ pub(crate) struct Look<'d> {
     locks: &'d Locks,
     marks: MarkTenures,
 }
-
-/// Rows that were loaded, and what they are held by if they were kept.
-pub(crate) type Loaded = (Arc<Rows>, Option<Held>);
 
 impl Definition {
     /// Finds the definition of the table of this full name. Rows are kept by what is held, unless a

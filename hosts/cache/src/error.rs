@@ -1,6 +1,5 @@
 //! Why a read failed.
 use crate::key::Key;
-use crate::row::Column;
 use std::error::Error;
 use std::fmt;
 use std::io;
@@ -100,14 +99,6 @@ impl ReadError {
 
     pub(crate) fn no_column(name: &str) -> ReadError {
         ReadError::Column(format!("the table has no column \"{name}\""))
-    }
-
-    /// The value of a column does not fit the type in the program.
-    pub(crate) fn misfit(column: &Column, why: &dyn fmt::Display) -> ReadError {
-        let (name, sql_type) = (column.name(), column.sql_type());
-        ReadError::Column(format!(
-            "the column \"{name}\" ({sql_type}) does not fit its type in the program: {why}"
-        ))
     }
 }
 

@@ -1,12 +1,12 @@
 //! Holds and loads what was missing, on a thread of its own: a read that misses is answered by the
 //! database at once, and waits for nobody.
-use crate::cache::{KrlPlace, Shared};
 use crate::definition::{Definition, Holding, Wanted};
 use crate::error::ReadError;
 use crate::key::Key;
-use crate::locks::{IsClosed, Locks};
+use crate::locks::{IsClosed, KrlPlace, Locks};
+use crate::shared::Shared;
 use crate::sql::{SERVERS, Selection};
-use crate::table::Inner;
+use crate::table::{Errand, Inner};
 use krl::ErrorKind;
 use std::collections::{HashMap, HashSet, VecDeque};
 use std::fmt::Display;
@@ -31,14 +31,6 @@ const MOST_KEYS_AHEAD: usize = 256;
 
 /// This many stripes that were called back are remembered.
 const MOST_CALLED_BACK: usize = 1024;
-
-/// What the loader is to do.
-pub(crate) enum Errand {
-    /// Hold the stripes of these keys, and keep their rows.
-    Load { table: Arc<Inner>, keys: Vec<Key> },
-    /// Give back everything, and end.
-    Leave,
-}
 
 /// Joins krl, and loads.
 pub(crate) struct Loader {

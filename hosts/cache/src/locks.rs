@@ -1,8 +1,8 @@
 //! The client of krl by which a process holds stripes.
-use crate::cache::KrlPlace;
 use crate::held::MarkTenures;
-use krl::{Client, Error, JoinError, Servers, Tenure};
+use krl::{Client, Error, JoinError, Servers, Tenure, TlsConfig};
 use std::ops::{Range, RangeInclusive};
+use std::path::PathBuf;
 use std::sync::{Arc, Mutex, MutexGuard, PoisonError};
 use std::time::Duration;
 
@@ -17,6 +17,14 @@ const LEAVE: Duration = Duration::from_secs(1);
 /// This many stripes that nobody asked for are held between two that somebody did, so that a
 /// request holds more. Nobody keeps rows of them, so their writers wait for nothing.
 const GAP: u64 = 16;
+
+/// As which client this process joins krl.
+#[derive(Debug)]
+pub(crate) struct KrlPlace {
+    pub numbers: Range<u8>,
+    pub lock_folder: PathBuf,
+    pub tls: Option<TlsConfig>,
+}
 
 /// The locks that this process holds, as one client of krl.
 #[derive(Debug)]

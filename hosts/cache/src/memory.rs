@@ -1,24 +1,13 @@
 //! The rows that a process keeps of a table, by their stripes.
 use crate::held::{Held, may_return};
 use crate::key::{Key, Stripe};
-use crate::row::Row;
+use crate::rows::Rows;
 use crate::statistics::Counter;
 use crate::worth::Worth;
 use ahash::RandomState;
 use std::collections::HashMap;
-use std::sync::atomic::{AtomicBool, AtomicUsize, Ordering};
+use std::sync::atomic::{AtomicUsize, Ordering};
 use std::sync::{Arc, PoisonError, RwLock, RwLockReadGuard, RwLockWriteGuard};
-
-/// About how many bytes a key takes besides its rows.
-const OVERHEAD: usize = 128;
-
-/// All rows of a key: none, if the table has none.
-#[derive(Debug, Default)]
-pub(crate) struct Rows {
-    pub rows: Box<[Row]>,
-    /// Whether they were read from memory since they were kept, or since room was needed.
-    was_read: AtomicBool,
-}
 
 /// Rows by stripe and key. Those of one stripe are held by the same tenures.
 #[derive(Debug)]
@@ -39,23 +28,6 @@ struct Kept {
     held: Option<Held>,
     rows: HashMap<Key, Arc<Rows>, RandomState>,
     worth: Worth,
-}
-
-impl Rows {
-    pub fn new(rows: Vec<Row>) -> Arc<Rows> {
-        Arc::new(Rows { rows: rows.into(), was_read: AtomicBool::new(false) })
-    }
-
-    /// Notes that they were read from memory.
-    pub fn note_read(&self) {
-        if !self.was_read.load(Ordering::Relaxed) {
-            self.was_read.store(true, Ordering::Relaxed);
-        }
-    }
-
-    fn size(&self, key: &Key) -> usize {
-        OVERHEAD + key.size() + self.rows.iter().map(Row::size).sum::<usize>()
-    }
 }
 
 impl Memory {
@@ -117,7 +89,7 @@ impl Memory {
         let mut read = Vec::new();
         for (key, rows) in kept.rows.drain() {
             self.note_dropped(&key, &rows);
-            if rows.was_read.load(Ordering::Relaxed) {
+            if rows.was_read() {
                 read.push(key);
             }
         }
@@ -135,7 +107,7 @@ impl Memory {
             let place = self.hand.fetch_add(1, Ordering::Relaxed) % self.stripes.len();
             let mut kept = self.stripes[place].write().unwrap_or_else(PoisonError::into_inner);
             kept.rows.retain(|key, rows| {
-                let stays = self.fits() || rows.was_read.swap(false, Ordering::Relaxed);
+                let stays = self.fits() || rows.take_read();
                 if !stays {
                     self.note_dropped(key, rows);
                     self.evictions.add(1);

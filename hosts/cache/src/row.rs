@@ -139,8 +139,8 @@ impl Row {
             Err(WrongType::new::<T>(column.sql_type.clone()).into())
         };
         value.map_err(|error| match error.downcast_ref::<WasNull>() {
-            Some(WasNull) => ReadError::misfit(column, &"it is NULL: read an Option"),
-            None => ReadError::misfit(column, &error),
+            Some(WasNull) => misfit(column, &"it is NULL: read an Option"),
+            None => misfit(column, &error),
         })
     }
 
@@ -179,6 +179,14 @@ impl fmt::Debug for Row {
         let value = |place: usize| (self.columns[place].name(), self.bytes(place));
         f.debug_map().entries((0..self.columns.len()).map(value)).finish()
     }
+}
+
+/// The value of a column does not fit the type in the program.
+fn misfit(column: &Column, why: &dyn fmt::Display) -> ReadError {
+    let (name, sql_type) = (column.name(), column.sql_type());
+    ReadError::Column(format!(
+        "the column \"{name}\" ({sql_type}) does not fit its type in the program: {why}"
+    ))
 }
 
 #[cfg(test)]

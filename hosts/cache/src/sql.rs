@@ -1,8 +1,8 @@
 //! What PostgreSQL is asked. Each name has its schema, so that nothing depends on a search path: what
 //! others make in a schema of it would be run with the rights of the reader.
 use crate::key::{Key, KeyValue};
-use crate::memory::Rows;
 use crate::row::Row;
+use crate::rows::Rows;
 use std::fmt::Write;
 use std::ops::RangeInclusive;
 use std::sync::Arc;

@@ -1,5 +1,5 @@
 //! What a table counts.
-use crate::definition::Loaded;
+use crate::rows::Loaded;
 use std::sync::atomic::{AtomicU64, Ordering};
 
 #[derive(Debug, Default)]

@@ -1,13 +1,12 @@
 //! The calls by which a table is read.
-use crate::cache::Shared;
-use crate::definition::{Definition, Holding, Loaded, Wanted};
+use crate::definition::{Definition, Holding, Wanted};
 use crate::error::ReadError;
 use crate::fault_note::FaultNote;
 use crate::held::{self, Held, Missing};
 use crate::key::Key;
-use crate::loader::Errand;
-use crate::memory::Rows;
 use crate::row::Row;
+use crate::rows::{Loaded, Rows};
+use crate::shared::Shared;
 use crate::sql::Selection;
 use crate::statistics::{Counters, Statistics};
 use std::fmt;
@@ -33,6 +32,14 @@ pub(crate) struct Inner {
     pub counters: Counters,
     /// Why the rows of this table are not kept.
     pub fault: FaultNote,
+}
+
+/// What the loader is to do.
+pub(crate) enum Errand {
+    /// Hold the stripes of these keys, and keep their rows.
+    Load { table: Arc<Inner>, keys: Vec<Key> },
+    /// Give back everything, and end.
+    Leave,
 }
 
 /// Rows in memory, and what they were held by when they were loaded.

@@ -1,7 +1,7 @@
 //! The declarations of `krl.h` that `krl` has, and those that only a test needs.
 #![allow(dead_code)]
 
-#[path = "../../rust/src/proved/ffi.rs"]
+#[path = "../../rust/src/ffi/declared.rs"]
 mod declared;
 
 pub use declared::*;

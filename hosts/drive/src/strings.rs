@@ -122,8 +122,8 @@ impl Table {
         let opened = unsafe {
             ffi::krl_server_open(
                 &raw mut server,
-                ffi::DEFAULT_ROOM,
-                ffi::MAX_REACH,
+                krl::Room::default().rows(),
+                krl::Reach::MAX.slots(),
                 0,
                 ptr::null(),
                 0,

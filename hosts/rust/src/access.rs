@@ -1,8 +1,5 @@
 //! Whom a server lets in.
-#[cfg_attr(not(any(feature = "tls", test)), expect(dead_code, reason = "only TLS reads names"))]
-pub(crate) mod identity;
-
-use crate::access::identity::Identity;
+use crate::identity::Identity;
 use crate::net::address::Address;
 use crate::net::stream::{Accepted, PeerAddress};
 use crate::net::tls::{NEEDED, Side, TlsConfig, TlsSession};

@@ -49,7 +49,11 @@
 //! | `store-tests` | the tests that every store has to pass |
 //! | `sans-io` | for the interface for C and the tests of this repository: not stable |
 mod access;
+mod call;
 mod client;
+mod ffi;
+#[cfg_attr(not(any(feature = "tls", test)), expect(dead_code, reason = "only TLS reads names"))]
+mod identity;
 mod lease;
 mod log;
 mod model;
@@ -68,25 +72,24 @@ mod store;
 mod wire;
 
 pub use access::Access;
-pub use access::identity::{BadIdentity, BadTableName, Identity, TableName};
+pub use call::error::{Error, ErrorKind, JoinError, JoinErrorKind, LockFileError, Unsent};
+pub use call::mutation::{BatchError, Fate, Mutation};
 pub use client::Client;
 pub use client::asynchronous::{AsyncChanges, AsyncClient, AsyncPin};
 pub use client::builder::ClientBuilder;
 pub use client::changes::Changes;
 pub use client::evict::evict;
-pub use client::lock_file::LockFileError;
 pub use client::lock_folder::lock_folder;
 pub use client::pin::Pin;
 pub use client::place::Place;
 pub use client::reader::Reader;
 pub use client::status::ShardStatus;
 pub use client::waiting::Waited;
+pub use identity::{BadIdentity, BadTableName, Identity, TableName};
 pub use lease::terms::{BadLeases, LeaseLeft, Leases};
-pub use model::batch::{BatchError, Fate, Mutation};
 pub use model::change::{Change, Outcome, Record, Write};
 pub use model::client_set::ClientSet;
 pub use model::code::Code;
-pub use model::error::{Error, ErrorKind, JoinError, JoinErrorKind, Unsent};
 pub use model::history::{History, Mark};
 pub use model::kept_shard::{KeptShard, NotLater};
 pub use model::lease_record::LeaseRecord;

@@ -1,6 +1,5 @@
 //! The library of the rules, whose functions are proved, within types that keep what it asks for.
 pub(crate) mod client_handle;
-pub(crate) mod ffi;
 pub(crate) mod gate;
 pub(crate) mod handle;
 pub(crate) mod hits;

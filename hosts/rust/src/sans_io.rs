@@ -4,6 +4,7 @@
 //! `hosts/capi` has it for C, by `krl_host.h`, with the lock file of the number. `hosts/simulation`
 //! has it with a disk of its own. Nothing here is a part of the interface in Rust, whose client is
 //! [`crate::Client`].
+use crate::call::error::{Error, ErrorKind, JoinError, JoinErrorKind};
 use crate::client::engine;
 use crate::client::session::Session;
 use crate::client::state::{Asked, State};
@@ -12,7 +13,6 @@ use crate::lease::clocks::Now;
 use crate::lease::terms::Sign;
 use crate::model::change::{Outcome, Write};
 use crate::model::client_number::ClientNumber;
-use crate::model::error::{Error, ErrorKind, JoinError, JoinErrorKind};
 use crate::model::row::Row;
 use crate::model::shard_bounds::ShardBounds;
 use crate::net::servers::Servers;

@@ -1,14 +1,14 @@
 //! A client whose calls are futures.
+use crate::call::error::{Error, ErrorKind};
+use crate::call::mutation::{BatchError, Mutation};
+use crate::call::range::keys_of;
 use crate::client::Client;
 use crate::client::calls::Calls;
 use crate::client::pin::Pin;
 use crate::client::state::Purpose;
 use crate::client::timeout::MAX_WAIT;
 use crate::client::waiting::Waited;
-use crate::model::batch::{BatchError, Mutation};
 use crate::model::change::{Outcome, Write};
-use crate::model::error::{Error, ErrorKind};
-use crate::model::range::keys_of;
 use crate::model::row::{Row, Value};
 use std::fmt;
 use std::ops::{Range, RangeBounds};

@@ -1,14 +1,14 @@
 //! The calls of clients and pins, made once: at one server, or by one map. [`crate::client::calls`]
 //! makes them again by the next map.
+use crate::call::error::{Error, ErrorKind};
+use crate::call::mutation::{BatchError, Judged, Mutation};
 use crate::client::joined::Joined;
 use crate::client::link::{Awaited, Link};
 use crate::client::pinned::Pinned;
 use crate::client::state::{Asked, Held, PATIENCE, Purpose, State};
 use crate::client::table::Table;
 use crate::client::waiting::{Waited, Waiting};
-use crate::model::batch::{BatchError, Judged, Mutation};
 use crate::model::change::{Outcome, Write};
-use crate::model::error::{Error, ErrorKind};
 use crate::model::row::Row;
 use crate::proved::partition::Part;
 use crate::shards::batch::Spread;

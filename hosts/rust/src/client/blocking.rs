@@ -1,9 +1,9 @@
 //! Calls that wait on their threads.
+use crate::call::error::Error;
+use crate::call::mutation::{BatchError, Mutation};
 use crate::client::calls::Calls;
 use crate::log::span;
-use crate::model::batch::{BatchError, Mutation};
 use crate::model::change::{Outcome, Write};
-use crate::model::error::Error;
 use crate::model::row::Row;
 use std::future::Future;
 use std::ops::Range;

@@ -1,4 +1,5 @@
 //! What a client is given before it joins.
+use crate::call::error::{JoinError, JoinErrorKind};
 use crate::client::Client;
 use crate::client::joining::{self, JoinPurpose, Waits};
 use crate::client::joining_shards::{JoiningShards, Lock};
@@ -7,7 +8,6 @@ use crate::client::numbers;
 use crate::client::place::Place;
 use crate::client::table::Table;
 use crate::model::client_number::ClientNumber;
-use crate::model::error::{JoinError, JoinErrorKind};
 use crate::model::row::END;
 use crate::net::servers::Servers;
 #[cfg(feature = "tls")]

@@ -1,14 +1,14 @@
 //! The calls of clients and pins, over one server or several. They wait on their threads or in
 //! tasks. A call at a shard that changes waits for the next map, and is made by that.
+use crate::call::error::{Error, ErrorKind, Unsent};
+use crate::call::mutation::{BatchError, Fate, Mutation};
 use crate::client::attempt::{Attempt, Taken};
 use crate::client::joined::Joined;
 use crate::client::pinned::Pinned;
 use crate::client::state::Purpose;
 use crate::client::table::Table;
 use crate::client::waiting::{Waited, Waiting};
-use crate::model::batch::{BatchError, Fate, Mutation};
 use crate::model::change::{Outcome, Write};
-use crate::model::error::{Error, ErrorKind, Unsent};
 use crate::model::row::Row;
 use std::ops::Range;
 use std::sync::Arc;

@@ -1,7 +1,7 @@
 //! The states of a range, one after the other.
+use crate::call::error::{Error, ErrorKind};
 use crate::client::timeout::MAX_WAIT;
 use crate::client::waiting::Waited;
-use crate::model::error::{Error, ErrorKind};
 use crate::model::row::Row;
 use std::fmt;
 use std::time::{Duration, Instant};

@@ -1,6 +1,6 @@
 //! The operator's eviction of a client.
+use crate::call::error::{JoinError, JoinErrorKind};
 use crate::client::joining::{self, JoinPurpose, Waits};
-use crate::model::error::{JoinError, JoinErrorKind};
 use crate::model::refusal::Refusal;
 use crate::net::servers::Servers;
 use std::path::Path;

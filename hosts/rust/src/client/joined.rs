@@ -1,9 +1,9 @@
 //! The servers that a client has joined by one map, or the only one.
+use crate::call::error::{Error, ErrorKind};
 use crate::client::link::Link;
 use crate::client::shard_client::{LEAVE_TIMEOUT, ShardClient};
 use crate::client::state::State;
 use crate::client::waiting::Waiting;
-use crate::model::error::{Error, ErrorKind};
 use crate::model::row::{END, Row};
 use crate::net::servers::Servers;
 use crate::proved::losses::Tenure;

@@ -1,4 +1,5 @@
 //! How a client joins.
+use crate::call::error::{ErrorKind, JoinErrorKind};
 use crate::client::incarnations::Incarnations;
 use crate::client::link::Link;
 use crate::client::lock_file::LockFile;
@@ -9,7 +10,6 @@ use crate::client::timeout::{MAX_WAIT, TIMEOUT};
 use crate::lease::clocks::Now;
 use crate::lease::terms::Older;
 use crate::model::client_number::ClientNumber;
-use crate::model::error::{ErrorKind, JoinErrorKind};
 use crate::model::refusal::Refusal;
 use crate::net::servers::Servers;
 use crate::proved::client_handle::ClientHandle;

@@ -3,9 +3,9 @@
 //! The file has the last incarnation that may have been sent to a server. One that reached no server
 //! leaves the file as it was: the next one then knows the incarnation that a server may still know,
 //! and that no process of it is left.
+use crate::call::error::LockFileError;
 use crate::client::incarnations::Incarnations;
 use crate::lease::terms::Older;
-use std::fmt;
 use std::fs::{File, OpenOptions, TryLockError};
 use std::io::{self, Read, Seek, SeekFrom, Write};
 use std::path::Path;
@@ -23,18 +23,6 @@ pub struct LockFile {
     kept: u64,
     /// The last one before the current one which may have been sent to a server, or 0.
     before: u64,
-}
-
-/// Why a lock file was not taken.
-#[derive(Debug)]
-#[non_exhaustive]
-pub enum LockFileError {
-    /// Another client of this number has it, in this or another process.
-    Taken,
-    /// It is not the lock file of this number.
-    Strange,
-    /// The file can't be read or written.
-    File(io::Error),
 }
 
 // One line, always of the same length, so that it is written over in place: a crash leaves the old
@@ -149,34 +137,6 @@ impl Drop for LockFile {
     /// its own program.
     fn drop(&mut self) {
         let _ = self.file.unlock();
-    }
-}
-
-impl fmt::Display for LockFileError {
-    fn fmt(&self, f: &mut fmt::Formatter<'_>) -> fmt::Result {
-        match self {
-            LockFileError::Taken => f.write_str(
-                "it is in use, by this or another process: give each client a number and a lock \
-                 file of its own",
-            ),
-            LockFileError::Strange => f.write_str("it is not the lock file of this client number"),
-            LockFileError::File(error) => write!(f, "it can't be used: {error}"),
-        }
-    }
-}
-
-impl std::error::Error for LockFileError {
-    fn source(&self) -> Option<&(dyn std::error::Error + 'static)> {
-        match self {
-            LockFileError::File(error) => Some(error),
-            LockFileError::Taken | LockFileError::Strange => None,
-        }
-    }
-}
-
-impl From<io::Error> for LockFileError {
-    fn from(error: io::Error) -> LockFileError {
-        LockFileError::File(error)
     }
 }
 

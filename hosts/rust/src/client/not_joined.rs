@@ -1,5 +1,5 @@
 //! Why nobody joined, as a caller learns it.
-use crate::model::error::{ErrorKind, JoinErrorKind};
+use crate::call::error::{ErrorKind, JoinErrorKind};
 use crate::net::connect_fault::{NoServer, Rejection};
 use crate::net::servers::Servers;
 use std::io;

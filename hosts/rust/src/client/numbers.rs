@@ -1,7 +1,6 @@
 //! The first number of several that is free.
+use crate::call::error::{JoinError, JoinErrorKind, LockFileError};
 use crate::client::joining::Waits;
-use crate::client::lock_file::LockFileError;
-use crate::model::error::{JoinError, JoinErrorKind};
 use crate::model::refusal::Refusal;
 use std::time::Duration;
 

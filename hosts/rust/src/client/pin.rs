@@ -1,10 +1,10 @@
 //! A pinned range, and the writes that are bound to it.
+use crate::call::error::Error;
+use crate::call::mutation::{BatchError, Mutation};
 use crate::client::calls::Calls;
 use crate::client::pinned::Pinned;
 use crate::client::timeout::MAX_WAIT;
-use crate::model::batch::{BatchError, Mutation};
 use crate::model::change::{Outcome, Write};
-use crate::model::error::Error;
 use crate::model::row::{Row, Value};
 use std::fmt;
 use std::sync::Arc;

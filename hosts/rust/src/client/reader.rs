@@ -4,14 +4,14 @@ mod faults;
 mod of_server;
 mod until;
 
+use crate::call::error::{Error, ErrorKind, JoinError, JoinErrorKind};
+use crate::call::range::keys_of;
 use crate::client::followed_map::FollowedMap;
 use crate::client::place::Place;
 use crate::client::standing::Standing;
 use crate::client::timeout::{MAX_WAIT, TIMEOUT};
 #[cfg(feature = "map-file")]
 use crate::client::watched_map::WatchedMap;
-use crate::model::error::{Error, ErrorKind, JoinError, JoinErrorKind};
-use crate::model::range::keys_of;
 use crate::model::row::{END, Row, Value};
 #[cfg(feature = "tls")]
 use crate::net::tls::TlsConfig;

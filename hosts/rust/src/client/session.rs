@@ -1,5 +1,6 @@
 //! A client and its connection, without a socket, a thread and a clock: what comes goes in, and
 //! what is to be sent comes out. [`crate::client::link`] is the shell around it.
+use crate::call::error::{Error, ErrorKind};
 use crate::client::backoff::Backoff;
 use crate::client::refused_connects::RefusedConnects;
 use crate::client::silence::{Silence, Silent};
@@ -8,7 +9,6 @@ use crate::client::state::{Asked, Asking, IDLE_TICK, JobId, State, WasSent};
 use crate::lease::clocks::Now;
 use crate::log::event_log;
 use crate::model::code::Code;
-use crate::model::error::{Error, ErrorKind};
 use crate::model::history::Seen;
 use crate::model::refusal::Refusal;
 use crate::model::shard_fence::Fence;

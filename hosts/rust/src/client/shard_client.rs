@@ -1,10 +1,10 @@
 //! A client of one server: of its only one, or of that of a shard.
+use crate::call::error::ErrorKind;
 use crate::client::link::Link;
 use crate::client::shared_reader::SharedReader;
 use crate::client::state::State;
 use crate::client::waiting::Waiting;
 use crate::lease::boot_clock::Moment;
-use crate::model::error::ErrorKind;
 use crate::model::row::Row;
 use crate::net::poller::Poller;
 use crate::proved::client_handle::Scan;

@@ -1,4 +1,5 @@
 //! What a client of one server reads and does not keep, by a connection of its own.
+use crate::call::error::ErrorKind;
 use crate::client::alarm::Alarm;
 use crate::client::answer::{Answering, place};
 use crate::client::link::Link;
@@ -6,7 +7,6 @@ use crate::client::reader::{ServerReader, Until};
 use crate::client::turns::Turns;
 use crate::client::waiting::Waiting;
 use crate::client::wakes::Wakes;
-use crate::model::error::ErrorKind;
 use crate::model::row::Row;
 use std::io;
 use std::ops::Range;

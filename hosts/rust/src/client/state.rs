@@ -17,13 +17,13 @@ mod watched;
 mod writing;
 mod yielding;
 
+use crate::call::error::ErrorKind;
 use crate::client::answer::{Answer, Answering, place};
 use crate::client::scratch::{copied, with_room};
 use crate::client::wakes::Wakes;
 use crate::lease::clocks::Now;
 use crate::model::change::{Outcome, Write};
 use crate::model::code::Code;
-use crate::model::error::ErrorKind;
 use crate::model::row::Row;
 use crate::proved::client_handle::{Cache, ClientHandle, Scan};
 use crate::wire::message::Message;

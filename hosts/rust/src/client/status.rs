@@ -1,7 +1,7 @@
 //! What a client shows of its servers.
+use crate::call::error::Error;
 use crate::client::Client;
 use crate::client::shard_client::ShardClient;
-use crate::model::error::Error;
 use std::sync::Arc;
 use std::time::Duration;
 

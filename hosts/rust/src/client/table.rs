@@ -1,5 +1,6 @@
 //! What the clones of a client and its pins share: the servers that it has joined, by the map of
 //! now.
+use crate::call::error::{Error, JoinError, JoinErrorKind};
 use crate::client::alarm::Alarm;
 use crate::client::joined::{Joined, leave_all};
 use crate::client::joining_shards::JoiningShards;
@@ -7,7 +8,6 @@ use crate::client::shard_client::ShardClient;
 use crate::client::state::State;
 use crate::client::timeout::Timeout;
 use crate::client::waiting::Waiting;
-use crate::model::error::{Error, JoinError, JoinErrorKind};
 use crate::model::row::Row;
 use crate::proved::losses::Tenure;
 use crate::shards::map::ShardMap;

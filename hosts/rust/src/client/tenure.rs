@@ -1,8 +1,8 @@
 //! For how long a client has held a range without a break.
+use crate::call::error::{Error, ErrorKind};
+use crate::call::range::keys_of;
 use crate::client::Client;
 use crate::client::scratch::with_room;
-use crate::model::error::{Error, ErrorKind};
-use crate::model::range::keys_of;
 use crate::proved::losses::Tenure;
 use std::ops::{Range, RangeBounds};
 

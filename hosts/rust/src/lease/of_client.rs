@@ -1,8 +1,8 @@
 //! How long a client may answer from its cache, by the clock of its machine. The rule is the
 //! library's; what is sent to the server, and when, is decided here.
+use crate::ffi;
 use crate::lease::boot_clock::Moment;
 use crate::lease::terms::{FOR_EVER, Grant, Older, Sign};
-use crate::proved::ffi;
 use std::io;
 use std::sync::Arc;
 use std::sync::atomic::{AtomicU64, Ordering};

@@ -1,5 +1,6 @@
 //! The leases of a server's clients. The library's table decides; what is here is what the store has
 //! of it, and on which connection each sign came.
+use crate::ffi::{self, code, done};
 use crate::lease::boot_clock::Moment;
 use crate::lease::terms::{FOR_EVER, Grant, LeaseLeft, Leases, Older, Sign};
 use crate::model::change::Record;
@@ -7,8 +8,6 @@ use crate::model::client_number::ClientNumber;
 use crate::model::client_set::ClientSet;
 use crate::model::code::Code;
 use crate::model::lease_record::LeaseRecord;
-use crate::proved::ffi;
-use crate::proved::handle::{code, done};
 use std::mem;
 use std::time::Duration;
 

@@ -1,6 +1,6 @@
 //! What a server grants its clients, and what the two hosts send each other about it.
+use crate::ffi;
 use crate::lease::boot_clock::Moment;
-use crate::proved::ffi;
 use std::fmt;
 use std::time::Duration;
 

@@ -9,7 +9,7 @@
         reason = "without the feature nothing is logged"
     )
 )]
-use crate::access::identity::Identity;
+use crate::identity::Identity;
 use crate::log::rate_limit::RateLimit;
 use crate::model::change::{Change, Record};
 use crate::model::history::Mark;

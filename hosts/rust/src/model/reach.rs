@@ -1,5 +1,5 @@
 //! How many slots one grant takes at most.
-use crate::proved::ffi;
+use crate::model::limits;
 use std::fmt;
 use std::str::FromStr;
 
@@ -16,7 +16,7 @@ pub struct BadReach;
 
 impl Reach {
     /// The greatest reach: 128 slots.
-    pub const MAX: Reach = Reach(ffi::MAX_REACH);
+    pub const MAX: Reach = Reach(limits::MAX_REACH);
 
     /// A reach of this many slots.
     ///
@@ -24,7 +24,7 @@ impl Reach {
     ///
     /// `BadReach` if there are none, or more than 128.
     pub fn of(slots: usize) -> Result<Reach, BadReach> {
-        (1..=ffi::MAX_REACH).contains(&slots).then_some(Reach(slots)).ok_or(BadReach)
+        (1..=limits::MAX_REACH).contains(&slots).then_some(Reach(slots)).ok_or(BadReach)
     }
 
     /// The most slots of one grant.
@@ -57,7 +57,7 @@ impl fmt::Display for Reach {
 
 impl fmt::Display for BadReach {
     fn fmt(&self, f: &mut fmt::Formatter<'_>) -> fmt::Result {
-        write!(f, "the reach of a server is 1 to {} slots", ffi::MAX_REACH)
+        write!(f, "the reach of a server is 1 to {} slots", limits::MAX_REACH)
     }
 }
 

@@ -1,5 +1,5 @@
 //! How many rows a server has room for.
-use crate::proved::ffi;
+use crate::model::limits;
 use std::fmt;
 use std::str::FromStr;
 
@@ -16,7 +16,7 @@ pub struct BadRoom;
 
 impl Room {
     /// The greatest room: for 1,048,576 rows.
-    pub const MAX: Room = Room(ffi::MAX_ROOM);
+    pub const MAX: Room = Room(limits::MAX_ROOM);
 
     /// Room for this many rows.
     ///
@@ -24,12 +24,12 @@ impl Room {
     ///
     /// `BadRoom` if there are none, or more than 1,048,576.
     pub fn of(rows: usize) -> Result<Room, BadRoom> {
-        (1..=ffi::MAX_ROOM).contains(&rows).then_some(Room(rows)).ok_or(BadRoom)
+        (1..=limits::MAX_ROOM).contains(&rows).then_some(Room(rows)).ok_or(BadRoom)
     }
 
     /// The least room for this many rows, or the greatest if no room is enough.
     pub(crate) fn for_rows(rows: usize) -> Room {
-        Room(rows.clamp(1, ffi::MAX_ROOM))
+        Room(rows.clamp(1, limits::MAX_ROOM))
     }
 
     /// The most rows.
@@ -42,7 +42,7 @@ impl Room {
 impl Default for Room {
     /// Room for 65,536 rows.
     fn default() -> Room {
-        Room(ffi::DEFAULT_ROOM)
+        Room(limits::DEFAULT_ROOM)
     }
 }
 
@@ -62,7 +62,7 @@ impl fmt::Display for Room {
 
 impl fmt::Display for BadRoom {
     fn fmt(&self, f: &mut fmt::Formatter<'_>) -> fmt::Result {
-        write!(f, "the room of a server is for 1 to {} rows", ffi::MAX_ROOM)
+        write!(f, "the room of a server is for 1 to {} rows", limits::MAX_ROOM)
     }
 }
 

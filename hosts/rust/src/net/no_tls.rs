@@ -1,5 +1,5 @@
 //! Without the feature `tls` no side of a connection can be made over TLS.
-use crate::access::identity::Identity;
+use crate::identity::Identity;
 use crate::wire::frames::Frames;
 use std::io::{self, Read};
 

@@ -9,7 +9,7 @@ mod pipe;
 pub use certificate::Certificate;
 pub use config::{TlsConfig, TlsError};
 
-use crate::access::identity::{Identity, Role, TableName};
+use crate::identity::{Identity, Role, TableName};
 use crate::net::connect_fault::Rejection;
 use crate::wire::frames::{Frames, GULP};
 use openssl::error::ErrorStack;

@@ -1,4 +1,5 @@
 //! A safe owner of a client's handle, and those that scan its cache at the same time.
+use crate::ffi::{self, code, done};
 use crate::lease::boot_clock::Moment;
 use crate::lease::clocks::Now;
 use crate::lease::of_client::{End, Lease};
@@ -7,9 +8,8 @@ use crate::model::change::{Outcome, Write};
 use crate::model::code::Code;
 use crate::model::lock::Mode;
 use crate::model::row::Row;
-use crate::proved::ffi;
 use crate::proved::gate::{Owner, ReadGuard, Reader};
-use crate::proved::handle::{Handle, code, done};
+use crate::proved::handle::Handle;
 use crate::proved::hits::Hits;
 use crate::proved::losses::{Losses, Tenure};
 use crate::wire::message::Message;

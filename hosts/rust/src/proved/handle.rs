@@ -1,6 +1,6 @@
 //! A safe owner of a handle of the library: a server's or a client's.
+use crate::ffi::{self, code, done};
 use crate::model::code::Code;
-use crate::proved::ffi;
 use std::ptr;
 
 /// The frames that wait after a call seldom have more bytes.
@@ -72,17 +72,5 @@ impl Drop for Handle {
     fn drop(&mut self) {
         // SAFETY: the handle stays in its place, and `&mut` gives it to this call only.
         unsafe { ffi::krl_close(self.raw()) }
-    }
-}
-
-pub(crate) fn code(reply: ffi::Reply) -> Code {
-    Code::of(reply.code)
-}
-
-/// What was done, or why not. A call that could not send something has done what it should.
-pub(crate) fn done(reply: ffi::Reply) -> Result<u64, Code> {
-    match code(reply) {
-        Code::Done | Code::ReplyLost => Ok(reply.detail),
-        refused => Err(refused),
     }
 }

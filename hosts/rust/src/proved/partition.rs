@@ -1,7 +1,6 @@
 //! Which shard has a key, and which part of a range each shard has: the library computes it.
+use crate::ffi::{self, done};
 use crate::model::code::Code;
-use crate::proved::ffi;
-use crate::proved::handle::done;
 use std::ops::Range;
 
 /// The most shards.

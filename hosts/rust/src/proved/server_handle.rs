@@ -1,4 +1,5 @@
 //! A server of the library.
+use crate::ffi::{self, code, done};
 use crate::model::change::{Change, Outcome, Record, Write};
 use crate::model::client_number::{ClientNumber, PerClient};
 use crate::model::code::Code;
@@ -7,8 +8,7 @@ use crate::model::reach::Reach;
 use crate::model::room::Room;
 use crate::model::row::{END, Row};
 use crate::model::snapshot::Snapshot;
-use crate::proved::ffi;
-use crate::proved::handle::{Handle, code, done};
+use crate::proved::handle::Handle;
 use std::ops::Range;
 
 /// A server of the library.

@@ -1,7 +1,7 @@
 //! One connection of a server: what has come on it, what its host sends to the peer, and what waits
 //! to be written.
 use crate::access::Entry;
-use crate::access::identity::Identity;
+use crate::identity::Identity;
 use crate::log::rate_limit::RateLimit;
 use crate::model::history::Seen;
 use crate::model::refusal::Refusal;

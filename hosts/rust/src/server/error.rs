@@ -1,5 +1,5 @@
 //! Why a server does not run, or ended.
-use crate::access::identity::Identity;
+use crate::identity::Identity;
 use crate::model::code::Code;
 use crate::model::history::Mark;
 use crate::model::room::Room;

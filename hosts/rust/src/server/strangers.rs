@@ -1,5 +1,5 @@
 //! Connections whose owners are not known yet, and room for those whose owners are known.
-use crate::access::identity::Identity;
+use crate::identity::Identity;
 use std::collections::VecDeque;
 use std::net::{IpAddr, Ipv6Addr};
 use std::time::{Duration, Instant};

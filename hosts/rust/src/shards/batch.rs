@@ -1,7 +1,7 @@
 //! Several writes at several shards.
-use crate::model::batch::{BatchError, Fate, Judged, Mutation};
+use crate::call::error::{Error, ErrorKind};
+use crate::call::mutation::{BatchError, Fate, Judged, Mutation};
 use crate::model::change::Outcome;
-use crate::model::error::{Error, ErrorKind};
 
 /// The writes of a call, by their shards.
 #[derive(Debug)]

@@ -1,7 +1,7 @@
 //! Which servers have which keys.
+use crate::call::error::{Error, ErrorKind};
+use crate::call::range::keys_of;
 use crate::model::code::Code;
-use crate::model::error::{Error, ErrorKind};
-use crate::model::range::keys_of;
 use crate::model::row::END;
 use crate::model::shard_bounds::ShardBounds;
 use crate::net::servers::Servers;

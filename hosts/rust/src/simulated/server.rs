@@ -1,6 +1,6 @@
 //! A server of a simulation.
 use crate::access::Entry;
-use crate::access::identity::Identity;
+use crate::identity::Identity;
 use crate::lease::clocks::Now;
 use crate::lease::terms::Leases;
 use crate::model::change::Change;

@@ -1,8 +1,8 @@
 //! Messages on a stream: each has its length before it, in eight bytes, the lowest first.
 //!
 //! A frame of no bytes is not a message: by it a server's host reports that a Bye is kept.
+use crate::model::limits;
 use crate::model::room::Room;
-use crate::proved::ffi;
 use std::io::{self, Read};
 use std::ops::Range;
 
@@ -11,7 +11,7 @@ pub(crate) const LONGEST_TO_SERVER: usize = 1 << 21;
 
 /// The longest message to a server of this room: a client's report grows with the rows.
 pub(crate) fn longest_to_server(room: Room) -> usize {
-    LONGEST_TO_SERVER * room.rows().div_ceil(ffi::DEFAULT_ROOM)
+    LONGEST_TO_SERVER * room.rows().div_ceil(limits::DEFAULT_ROOM)
 }
 
 /// The longest message to a server that is not a report, and the longest frame of a host: an insert
@@ -27,7 +27,7 @@ const LONGEST_HOLDING: usize = 51;
 
 /// The longest message to a client: a grant of a server with the greatest reach. A client does not
 /// know the reach of its server, and takes grants of any.
-pub(crate) const LONGEST_TO_CLIENT: usize = GRANT_HEAD + LONGEST_HOLDING * ffi::MAX_REACH;
+pub(crate) const LONGEST_TO_CLIENT: usize = GRANT_HEAD + LONGEST_HOLDING * limits::MAX_REACH;
 
 /// The frame of no bytes.
 pub(crate) const EMPTY: [u8; PREFIX] = [0; PREFIX];

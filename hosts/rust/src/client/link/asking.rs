@@ -1,10 +1,10 @@
 //! What callers ask of a client, and how they wait for the answer.
 use super::{Link, lock};
+use crate::call::error::ErrorKind;
 use crate::client::answer::Answer;
 use crate::client::session::Session;
 use crate::client::state::{Asked, BUSY_TICK, State};
 use crate::client::writer::WriteState;
-use crate::model::error::ErrorKind;
 use crate::model::refusal::Refusal;
 use crate::net::poller::Ready;
 use std::sync::MutexGuard;

@@ -1,7 +1,7 @@
 //! How callers wait for answers: on their threads, or as tasks.
 use super::Link;
+use crate::call::error::ErrorKind;
 use crate::client::state::{Asked, State};
-use crate::model::error::ErrorKind;
 use std::future::Future;
 use std::pin::Pin;
 use std::sync::Arc;

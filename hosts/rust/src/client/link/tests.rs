@@ -1,7 +1,7 @@
 //! What callers share with the thread of the connection.
 use super::*;
+use crate::call::error::ErrorKind;
 use crate::lease::boot_clock::Moment;
-use crate::model::error::ErrorKind;
 use crate::net::outbox::STALL;
 use crate::net::stream::{Listener, Stream};
 use crate::proved::client_handle::{ClientHandle, Scan};

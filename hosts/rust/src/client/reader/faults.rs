@@ -1,8 +1,8 @@
 //! Why a reader has no answer, and when it gives up.
+use crate::call::error::{ErrorKind, JoinErrorKind};
 use crate::client::not_joined::why_not_joined;
 use crate::client::refused_connects::RefusedConnects;
 use crate::client::standing::Standing;
-use crate::model::error::{ErrorKind, JoinErrorKind};
 use crate::model::refusal::Refusal;
 use crate::net::connect_fault::{NoServer, NothingListens, Rejection, Rejections};
 use crate::net::servers::Servers;

@@ -2,8 +2,8 @@
 use super::connection::{Connection, Lost};
 use super::faults::Faults;
 use super::until::Until;
+use crate::call::error::{ErrorKind, JoinErrorKind};
 use crate::client::backoff::{self, Backoff};
-use crate::model::error::{ErrorKind, JoinErrorKind};
 use crate::model::history::Seen;
 use crate::model::row::Row;
 use crate::net::servers::Servers;

@@ -1,6 +1,6 @@
 //! Until when a reader asks a server.
+use crate::call::error::ErrorKind;
 use crate::client::standing::Standing;
-use crate::model::error::ErrorKind;
 use std::time::Instant;
 
 /// Until when a reader asks a server: for an answer, for a time, or for a next map.

@@ -1,9 +1,9 @@
 //! What a client's host and that of its server send to one another beneath the messages.
 use super::{Session, bad_message};
+use crate::call::error::{Error, ErrorKind};
 use crate::client::state::Dropped;
 use crate::lease::terms::Answer;
 use crate::log::event_log;
-use crate::model::error::{Error, ErrorKind};
 use crate::model::refusal::Refusal;
 use crate::net::connect_fault::Rejection;
 use crate::wire::host_frame::{FromClient, FromServer};

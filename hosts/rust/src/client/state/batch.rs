@@ -3,9 +3,9 @@
 //! caller.
 use super::bound::{Bond, Wanted};
 use super::{Asked, Job, Reply, State};
-use crate::model::batch::{Judged, Mutation};
+use crate::call::error::ErrorKind;
+use crate::call::mutation::{Judged, Mutation};
 use crate::model::change::{Outcome, Write};
-use crate::model::error::ErrorKind;
 use std::collections::VecDeque;
 
 /// Where it goes how a write was judged.

@@ -3,8 +3,8 @@ use super::batch::Report;
 use super::life::Stage;
 use super::writing::Kept;
 use super::{Asked, Job, State};
+use crate::call::error::ErrorKind;
 use crate::model::change::{Outcome, Write};
-use crate::model::error::ErrorKind;
 
 /// What has to hold for a write to be made.
 #[derive(Clone, Copy, Debug, PartialEq, Eq)]

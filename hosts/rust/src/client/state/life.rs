@@ -9,7 +9,7 @@ use super::takings::Takings;
 use super::unkept::Question;
 use super::writing::Written;
 use super::{Asked, Asking, Job, JobId, State};
-use crate::model::error::ErrorKind;
+use crate::call::error::ErrorKind;
 use crate::model::refusal::Refusal;
 use crate::proved::client_handle::ClientHandle;
 use std::mem;

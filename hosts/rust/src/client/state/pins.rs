@@ -1,7 +1,7 @@
 //! Pinned ranges, and what is given back after them.
 use super::State;
+use crate::call::error::ErrorKind;
 use crate::model::code::Code;
-use crate::model::error::ErrorKind;
 use std::mem;
 use std::ops::Range;
 use std::time::{Duration, Instant};

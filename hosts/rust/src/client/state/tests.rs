@@ -1,7 +1,7 @@
 use super::world::{World, pass, row};
 use super::*;
+use crate::call::error::Unsent;
 use crate::lease::boot_clock::Moment;
-use crate::model::error::Unsent;
 use crate::wire::message::kind::LOCK;
 
 #[test]

@@ -1,10 +1,10 @@
 //! Ranges whose changes a caller waits for.
 use super::life::Stage;
 use super::{Asked, JobId, Reply, State};
+use crate::call::error::ErrorKind;
 use crate::client::answer::place;
 use crate::client::scratch::with_room;
 use crate::model::code::Code;
-use crate::model::error::ErrorKind;
 use crate::model::row::Row;
 use crate::proved::client_handle::Scan;
 use std::mem;

@@ -2,9 +2,9 @@
 use super::batch::Report;
 use super::bound::Wanted;
 use super::{Job, JobId, State};
+use crate::call::error::ErrorKind;
 use crate::model::change::{Outcome, Write};
 use crate::model::code::Code;
-use crate::model::error::ErrorKind;
 use crate::model::lock::Mode;
 use crate::proved::client_handle::Scan;
 use std::time::{Duration, Instant};

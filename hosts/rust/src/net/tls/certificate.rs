@@ -1,5 +1,5 @@
 //! The content of a side's own certificate.
-use crate::access::identity::{Role, TableName};
+use crate::identity::{Role, TableName};
 use openssl::asn1::{Asn1Time, Asn1TimeRef};
 use openssl::error::ErrorStack;
 use openssl::nid::Nid;

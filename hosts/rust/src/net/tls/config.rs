@@ -1,6 +1,6 @@
 //! What one side of a connection shows, and whom it trusts.
 use super::certificate::{Certificate, Unfit};
-use crate::access::identity::TableName;
+use crate::identity::TableName;
 use openssl::error::ErrorStack;
 use openssl::pkey::{PKey, Private};
 use openssl::ssl::{

@@ -2,7 +2,7 @@
 //! makes room for another.
 use super::{Connections, MAX_READERS, Peer};
 use crate::access::Entry;
-use crate::access::identity::Identity;
+use crate::identity::Identity;
 use crate::log::event_log;
 use crate::log::event_log::At;
 use crate::net::stream::PeerAddress;

@@ -1,7 +1,7 @@
 //! The Hello of a client's host, and what follows if the store lacks what that host has seen, or is
 //! another one.
 use super::{EventLoop, LAST_TURNS};
-use crate::access::identity::Identity;
+use crate::identity::Identity;
 use crate::lease::clocks::Now;
 use crate::model::history::{Comparison, Mark, Seen};
 use crate::model::refusal::{Refusal, STREAM_VERSION};

@@ -1,6 +1,6 @@
 //! Which long frames a server admits.
 use super::EventLoop;
-use crate::access::identity::Identity;
+use crate::identity::Identity;
 use crate::model::change::Record;
 use crate::server::close_reason::CloseReason;
 use crate::server::error::ServeError;

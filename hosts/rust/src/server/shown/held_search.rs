@@ -1,5 +1,5 @@
 //! Searches for who holds what in a server's table, a page at a time.
-use crate::model::range::keys_of;
+use crate::call::range::keys_of;
 use crate::server::lock_search::{HeldRun, Page, Search};
 use crate::server::shown::locks::{LocksError, page};
 use crate::server::shown::monitor::Monitor;

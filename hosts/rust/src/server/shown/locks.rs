@@ -1,7 +1,7 @@
 //! Who holds which slots of a server's table, and who waits there.
+use crate::call::range::keys_of;
 use crate::model::client_number::ClientNumber;
 use crate::model::lock::HeldSlot;
-use crate::model::range::keys_of;
 use crate::server::lock_search::{HeldRun, Page, Search};
 use crate::server::questions::{BUSY, Question, Questions, Unanswered};
 use crate::server::shown::watch::Wait;

@@ -1,8 +1,8 @@
 use super::super::world::{World, row};
 use super::super::{Asking, Dropped, WasSent};
 use super::*;
-use crate::model::batch::Fate;
-use crate::model::error::Unsent;
+use crate::call::error::Unsent;
+use crate::call::mutation::Fate;
 use Mutation::{Delete, Insert, Put, Set};
 use Outcome::{Absent, Applied, Exists};
 

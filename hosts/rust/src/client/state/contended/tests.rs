@@ -1,10 +1,10 @@
 use super::PAUSE;
+use crate::call::error::ErrorKind;
 use crate::client::state::bound::Wanted;
 use crate::client::state::callbacks::CONTENDED_FOR;
 use crate::client::state::world::{World, pass, row};
 use crate::client::state::{Asking, Purpose};
 use crate::model::change::{Outcome, Write};
-use crate::model::error::ErrorKind;
 use crate::wire::message::kind::{ACK, LOCK, RELEASE};
 
 const WRITER: usize = 0;

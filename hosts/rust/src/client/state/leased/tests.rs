@@ -1,10 +1,10 @@
 use super::super::world::{World, messages, pass, row};
 use super::super::{Asking, Code};
 use super::*;
+use crate::call::error::ErrorKind;
 use crate::lease::clocks::Now;
 use crate::lease::terms::{FOR_EVER, Grant, Older};
 use crate::model::change::{Outcome, Write};
-use crate::model::error::ErrorKind;
 use crate::proved::client_handle::{ClientHandle, Scan};
 
 const LONG: u64 = 60_000_000_000;

@@ -1,9 +1,9 @@
 use super::*;
+use crate::call::error::ErrorKind;
 use crate::client::state::callbacks::CONTENDED_FOR;
 use crate::client::state::world::{World, pass, row};
 use crate::client::state::{Asked, Purpose};
 use crate::model::change::{Outcome, Write};
-use crate::model::error::ErrorKind;
 use crate::model::row::{END, Row};
 use crate::proved::client_handle::ClientHandle;
 use crate::wire::read_frame::PAGE;

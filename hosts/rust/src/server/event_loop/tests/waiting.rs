@@ -1,8 +1,8 @@
 //! Clients that wait for what a release has given to another one.
 use crate::access::Entry;
-use crate::access::identity::Identity;
 use crate::client::state::world::{messages, row};
 use crate::client::state::{Asked, Asking, Held, Purpose, State};
+use crate::identity::Identity;
 use crate::lease::clocks::Now;
 use crate::model::change::{Outcome, Write};
 use crate::model::reach::Reach;

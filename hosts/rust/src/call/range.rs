@@ -1,5 +1,5 @@
 //! Ranges of keys, as callers name them.
-use crate::model::error::ErrorKind;
+use crate::call::error::ErrorKind;
 use std::ops::{Bound, Range, RangeBounds};
 
 /// One past the last point: a range ends here at most.

@@ -1,5 +1,4 @@
 //! Why a client's call was refused.
-use crate::client::lock_file::LockFileError;
 use crate::model::code::Code;
 use crate::model::refusal::Refusal;
 use crate::model::shard_fence::OtherShard;
@@ -434,6 +433,46 @@ impl std::error::Error for JoinError {
 impl From<JoinErrorKind> for JoinError {
     fn from(kind: JoinErrorKind) -> JoinError {
         JoinError { kind, number: None, shard: None }
+    }
+}
+
+/// Why a lock file was not taken.
+#[derive(Debug)]
+#[non_exhaustive]
+pub enum LockFileError {
+    /// Another client of this number has it, in this or another process.
+    Taken,
+    /// It is not the lock file of this number.
+    Strange,
+    /// The file can't be read or written.
+    File(io::Error),
+}
+
+impl fmt::Display for LockFileError {
+    fn fmt(&self, f: &mut fmt::Formatter<'_>) -> fmt::Result {
+        match self {
+            LockFileError::Taken => f.write_str(
+                "it is in use, by this or another process: give each client a number and a lock \
+                 file of its own",
+            ),
+            LockFileError::Strange => f.write_str("it is not the lock file of this client number"),
+            LockFileError::File(error) => write!(f, "it can't be used: {error}"),
+        }
+    }
+}
+
+impl std::error::Error for LockFileError {
+    fn source(&self) -> Option<&(dyn std::error::Error + 'static)> {
+        match self {
+            LockFileError::File(error) => Some(error),
+            LockFileError::Taken | LockFileError::Strange => None,
+        }
+    }
+}
+
+impl From<io::Error> for LockFileError {
+    fn from(error: io::Error) -> LockFileError {
+        LockFileError::File(error)
     }
 }
 

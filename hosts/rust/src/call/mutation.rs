@@ -1,6 +1,6 @@
 //! Several writes of one call, and how far they came.
+use crate::call::error::{Error, ErrorKind};
 use crate::model::change::{Outcome, Write};
-use crate::model::error::{Error, ErrorKind};
 use crate::model::row::Row;
 use std::fmt;
 
@@ -147,7 +147,7 @@ impl std::error::Error for BatchError {
 #[cfg(test)]
 mod tests {
     use super::*;
-    use crate::model::error::Unsent;
+    use crate::call::error::Unsent;
     use Fate::{NotMade, Unknown};
     use Outcome::{Applied, Exists};
 
