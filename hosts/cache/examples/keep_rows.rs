@@ -12,7 +12,7 @@ use std::process::ExitCode;
 use std::thread;
 use std::time::Duration;
 
-const PAUSE: Duration = Duration::from_millis(100);
+const PAUSE_BETWEEN_ROUNDS: Duration = Duration::from_millis(100);
 
 type Fault = Box<dyn std::error::Error>;
 
@@ -42,6 +42,6 @@ fn keep(database: &str, folder: &str, table: &str, rows: &str) -> Result<Infalli
             println!("all rows are in memory");
         }
         were_kept |= are_kept;
-        thread::sleep(PAUSE);
+        thread::sleep(PAUSE_BETWEEN_ROUNDS);
     }
 }

@@ -10,7 +10,7 @@ use std::thread;
 use std::time::{Duration, Instant};
 
 const PATIENCE: Duration = Duration::from_secs(60);
-const PAUSE: Duration = Duration::from_millis(10);
+const PAUSE_BETWEEN_READS: Duration = Duration::from_millis(10);
 
 fn run(database: PostgresAddress, key: i64) -> Result<(), Box<dyn Error>> {
     let cache = Cache::builder(database, "krl-locks").open()?;
@@ -21,7 +21,7 @@ fn run(database: PostgresAddress, key: i64) -> Result<(), Box<dyn Error>> {
         let Some(item) = items.get(key)? else { return Err(format!("no row {key}").into()) };
         let (name, price): (&str, i64) = (item.get("name")?, item.get("price")?);
         println!("{name} for {price}, {} from memory", items.statistics().hits);
-        thread::sleep(PAUSE);
+        thread::sleep(PAUSE_BETWEEN_READS);
     }
     println!("{:?}", items.statistics());
     let fault = cache.fault();

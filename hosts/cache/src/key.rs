@@ -202,7 +202,7 @@ impl<A: Into<KeyValue>, B: Into<KeyValue>, C: Into<KeyValue>> From<(A, B, C)> fo
 mod tests {
     use super::*;
 
-    const MOST: u32 = (1 << 20) - 2;
+    const MOST_STRIPES: u32 = (1 << 20) - 2;
     const UUID: [u8; 16] = [
         0xa0, 0xee, 0xbc, 0x99, 0x9c, 0x0b, 0x4e, 0xf8, 0xbb, 0x6d, 0x6b, 0xb9, 0xbd, 0x38, 0x0a,
         0x11,
@@ -216,17 +216,17 @@ mod tests {
     #[test]
     fn the_stripe_of_a_key_that_is_no_integer_is_that_of_the_extension() {
         let cases: [(Key, u32, u32); 11] = [
-            ("".into(), MOST, 830_951),
-            ("a".into(), MOST, 804_268),
-            (("a", "b").into(), MOST, 329_745),
-            (("ab", "").into(), MOST, 538_391),
-            (("", "ab").into(), MOST, 1_002_665),
+            ("".into(), MOST_STRIPES, 830_951),
+            ("a".into(), MOST_STRIPES, 804_268),
+            (("a", "b").into(), MOST_STRIPES, 329_745),
+            (("ab", "").into(), MOST_STRIPES, 538_391),
+            (("", "ab").into(), MOST_STRIPES, 1_002_665),
             ("lamp".into(), 4096, 3899),
             ("Gl\u{fc}hlampe".into(), 4096, 2356),
-            (UUID.into(), MOST, 639_083),
-            (("at", UUID).into(), MOST, 285_327),
-            ((-7, "lamp").into(), MOST, 609_602),
-            ((i64::MIN, "x", "y").into(), MOST, 442_952),
+            (UUID.into(), MOST_STRIPES, 639_083),
+            (("at", UUID).into(), MOST_STRIPES, 285_327),
+            ((-7, "lamp").into(), MOST_STRIPES, 609_602),
+            ((i64::MIN, "x", "y").into(), MOST_STRIPES, 442_952),
         ];
         for (key, count, expected) in cases {
             assert_eq!(stripes(count, false).of(&key), Stripe(expected), "{key}");

@@ -16,7 +16,7 @@ use std::sync::mpsc::{Receiver, RecvTimeoutError};
 use std::time::{Duration, Instant};
 
 /// The pause before another attempt to join krl.
-const PAUSE: Duration = Duration::from_millis(500);
+const PAUSE_BETWEEN_JOINS: Duration = Duration::from_millis(500);
 
 /// How often the database is asked whether the role may still connect, and lost connections are
 /// closed.
@@ -188,7 +188,7 @@ impl Loader {
             return Err(Fault::Cache(why.unwrap_or_else(|| "krl has not been joined yet".into())));
         }
         let joined = self.join();
-        self.next_join = Instant::now() + PAUSE;
+        self.next_join = Instant::now() + PAUSE_BETWEEN_JOINS;
         let locks = Arc::new(joined?);
         self.shared.locks.put(&locks).inspect_err(|IsClosed| locks.leave())?;
         Ok(locks)

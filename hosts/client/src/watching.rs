@@ -7,7 +7,7 @@ use std::ops::Range;
 use std::time::Duration;
 
 /// How often a watch looks whether a signal ends it.
-const LOOK: Duration = Duration::from_millis(200);
+const SIGNAL_CHECK_INTERVAL: Duration = Duration::from_millis(200);
 
 /// Prints the range, and again after each change, this many times or until a signal.
 ///
@@ -18,7 +18,7 @@ pub fn watch(context: &Context<'_>, keys: &Range<u64>, count: Option<u64>) -> Re
     let signals = context.signals.to_loop();
     context.printer.change(0, &rows)?;
     // A signal is seen soon, also while the server is away.
-    let client = client.within(LOOK);
+    let client = client.within(SIGNAL_CHECK_INTERVAL);
     let mut ended = Ok(());
     for number in 1..=count.unwrap_or(u64::MAX) {
         match next_change(&client, keys, &rows, &signals) {
@@ -45,7 +45,7 @@ fn next_change(
     signals: &Taken<'_>,
 ) -> Result<Option<Vec<Row>>, Error> {
     while !signals.is_ended() {
-        if client.wait_for_change(keys.clone(), rows, LOOK)? == Waited::Unchanged {
+        if client.wait_for_change(keys.clone(), rows, SIGNAL_CHECK_INTERVAL)? == Waited::Unchanged {
             continue;
         }
         match client.read(keys.clone()) {

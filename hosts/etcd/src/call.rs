@@ -20,7 +20,7 @@ const LARGE_ATTEMPT: Duration = Duration::from_secs(5);
 const LARGE_BYTES: usize = 1 << 16;
 
 /// The pause before the next attempt: the first one, and the longest.
-const PAUSE: Duration = Duration::from_millis(10);
+const FIRST_PAUSE: Duration = Duration::from_millis(10);
 const LONGEST_PAUSE: Duration = Duration::from_millis(200);
 
 /// The most bytes of an answer: a full table has some 4 MB.
@@ -82,7 +82,7 @@ impl Etcd {
     /// Makes a call that may be made more than once, until it is answered or the deadline has
     /// passed. It ends before if no endpoint takes what the server was given.
     pub fn call(&mut self, path: &str, body: &Json, end: Instant) -> Result<Json, Failure> {
-        let (mut pause, mut unusable) = (PAUSE, 0);
+        let (mut pause, mut unusable) = (FIRST_PAUSE, 0);
         loop {
             let why = match self.attempt_as_user(path, body) {
                 Ok(answer) => return Ok(answer),

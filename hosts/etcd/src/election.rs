@@ -13,8 +13,8 @@ use std::sync::mpsc::{Receiver, RecvTimeoutError, Sender, channel};
 use std::thread::{self, JoinHandle};
 use std::time::{Duration, Instant};
 
-/// How often a server that stands by looks.
-const LOOK: Duration = Duration::from_millis(100);
+/// The pause of a server that stands by before it tries again to take its place.
+const PAUSE_BETWEEN_TRIES: Duration = Duration::from_millis(100);
 
 /// How long it waits for an answer that is only informative.
 const ASK: Duration = Duration::from_secs(5);
@@ -104,7 +104,7 @@ impl Election {
                 }
                 Err(refused @ Failure::Refused(_)) => return Err(refused.into()),
             }
-            thread::sleep(LOOK);
+            thread::sleep(PAUSE_BETWEEN_TRIES);
         }
         Ok(None)
     }
@@ -321,7 +321,7 @@ mod tests {
         let end = Instant::now() + LONG;
         while !is_so() {
             assert!(Instant::now() < end, "it does not come");
-            thread::sleep(LOOK / 10);
+            thread::sleep(PAUSE_BETWEEN_TRIES / 10);
         }
     }
 
@@ -392,7 +392,7 @@ mod tests {
         cluster.freeze();
         thread::scope(|scope| {
             scope.spawn(|| drop(term));
-            thread::sleep(5 * LOOK);
+            thread::sleep(5 * PAUSE_BETWEEN_TRIES);
             cluster.thaw();
         });
         let begun = Instant::now();

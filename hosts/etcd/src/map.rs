@@ -12,7 +12,7 @@ const TIMEOUT: Duration = Duration::from_secs(60);
 
 /// The pause after a wait that ended without an event: the cluster, or what is in front of it, gives
 /// none.
-const PAUSE: Duration = Duration::from_millis(200);
+const PAUSE_WITHOUT_EVENT: Duration = Duration::from_millis(200);
 
 /// A map of shards under a key of etcd, as text, which others replace and wait for.
 ///
@@ -90,7 +90,7 @@ impl EtcdMap {
     pub fn wait(&mut self, most: Duration) {
         let end = Instant::now() + most;
         if !self.etcd.watch(&self.key, self.revision + 1, most) {
-            thread::sleep(PAUSE.min(end.saturating_duration_since(Instant::now())));
+            thread::sleep(PAUSE_WITHOUT_EVENT.min(end.saturating_duration_since(Instant::now())));
         }
     }
 }

@@ -12,7 +12,7 @@ use tokio_postgres::types::ToSql;
 use tokio_postgres::{Client, Error, IsolationLevel, Row, Statement};
 
 /// The pause before another attempt.
-const PAUSE: Duration = Duration::from_millis(50);
+const PAUSE_BETWEEN_TRIES: Duration = Duration::from_millis(50);
 
 /// This many attempts are made if each one's connection is silent: a connection that the database,
 /// or the network, has lost without notice is left for a new one.
@@ -127,7 +127,9 @@ impl Link {
         let attempt = end.saturating_duration_since(Instant::now()) / ATTEMPTS;
         loop {
             match what(self, end.min(Instant::now() + attempt)) {
-                Err(Failure::Unknown(_)) if Instant::now() + PAUSE < end => thread::sleep(PAUSE),
+                Err(Failure::Unknown(_)) if Instant::now() + PAUSE_BETWEEN_TRIES < end => {
+                    thread::sleep(PAUSE_BETWEEN_TRIES);
+                }
                 ended => return ended,
             }
         }

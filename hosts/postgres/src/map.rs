@@ -17,7 +17,7 @@ use tokio_postgres::{Client, Error};
 const TIMEOUT: Duration = Duration::from_secs(60);
 
 /// The pause if there is no connection on which a change could be waited for.
-const PAUSE: Duration = Duration::from_millis(200);
+const PAUSE_WITHOUT_CONNECTION: Duration = Duration::from_millis(200);
 
 /// A map of shards in a row of PostgreSQL, as text, which others replace and wait for: the one row of
 /// `krl.map`. The database may have a store of krl too.
@@ -100,7 +100,7 @@ impl PostgresMap {
             match told {
                 // That nothing came in time is no error.
                 Some(told) => drop(timeout(most, told.notified()).await),
-                None => sleep(PAUSE.min(most)).await,
+                None => sleep(PAUSE_WITHOUT_CONNECTION.min(most)).await,
             }
         });
     }

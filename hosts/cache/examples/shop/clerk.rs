@@ -7,7 +7,7 @@ use std::thread;
 use std::time::{Duration, Instant};
 
 /// The pause between two prices.
-const PAUSE: Duration = Duration::from_millis(100);
+const PAUSE_BETWEEN_PRICES: Duration = Duration::from_millis(100);
 
 /// A process of psql.
 pub struct Clerk {
@@ -47,7 +47,7 @@ impl Clerk {
             let mut line = String::new();
             self.output.read_line(&mut line)?;
             self.acknowledged.note_price(number, line.trim_end().parse()?)?;
-            thread::sleep(PAUSE);
+            thread::sleep(PAUSE_BETWEEN_PRICES);
         }
         Ok(())
     }

@@ -97,7 +97,7 @@ impl Places {
 }
 
 /// How often a thread that waits for its next call looks whether it is to end.
-const LOOK: Duration = Duration::from_millis(50);
+const END_CHECK_INTERVAL: Duration = Duration::from_millis(50);
 
 /// When a thread that keeps to a rate makes its next call.
 #[derive(Clone, Copy, Debug)]
@@ -215,7 +215,7 @@ impl Worker {
                 return std::mem::take(&mut self.measured);
             }
             if let Some(wait) = self.pace.as_mut().and_then(|pace| pace.wait(now)) {
-                thread::sleep(wait.min(LOOK));
+                thread::sleep(wait.min(END_CHECK_INTERVAL));
                 continue;
             }
             let counted = span.counts(now);

@@ -6,7 +6,7 @@ use std::task::Waker;
 use std::time::{Duration, Instant};
 
 /// A thread looks at the deadlines this often, or when the next one comes.
-const LOOKS: Duration = Duration::from_millis(250);
+const DEADLINE_CHECK_INTERVAL: Duration = Duration::from_millis(250);
 
 /// The tasks that wait for answers, by when they give up.
 ///
@@ -39,7 +39,9 @@ impl Deadlines {
     pub fn next_in(&self, now: Instant) -> Duration {
         let waiting = self.lock();
         let next = waiting.first_key_value().map(|((end, _), _)| *end);
-        next.map_or(LOOKS, |end| end.saturating_duration_since(now).min(LOOKS))
+        next.map_or(DEADLINE_CHECK_INTERVAL, |end| {
+            end.saturating_duration_since(now).min(DEADLINE_CHECK_INTERVAL)
+        })
     }
 
     /// Wakes all tasks, each once.
@@ -74,7 +76,7 @@ mod tests {
         let (count, now) = (WakeCount::new(), Instant::now());
         let (waker, second) = (count.waker(), Duration::from_secs(1));
         let deadlines = Deadlines::default();
-        assert_eq!(deadlines.next_in(now), LOOKS);
+        assert_eq!(deadlines.next_in(now), DEADLINE_CHECK_INTERVAL);
         for (end, number) in [(now + second, 1), (now, 2), (now, 3)] {
             deadlines.put(end, number, &waker);
         }

@@ -12,7 +12,7 @@ use std::thread;
 use std::time::Duration;
 
 /// How often a client looks whether the file is another one.
-const LOOK: Duration = Duration::from_millis(50);
+const FILE_CHECK_INTERVAL: Duration = Duration::from_millis(50);
 
 impl Client {
     /// From now on the client follows the map in this file: it continues by each map that it finds
@@ -62,7 +62,7 @@ impl Follower {
             if let Some(map) = self.map.look() {
                 self.continue_by(map);
             }
-            thread::sleep(LOOK);
+            thread::sleep(FILE_CHECK_INTERVAL);
         }
     }
 

@@ -14,7 +14,7 @@ use std::sync::Arc;
 use std::time::{Duration, Instant};
 
 /// How often a client that joins looks whether there is a next map.
-const LOOK: Duration = Duration::from_millis(50);
+const MAP_CHECK_INTERVAL: Duration = Duration::from_millis(50);
 
 /// What a client of a map needs to join its shards.
 #[derive(Debug)]
@@ -147,7 +147,7 @@ fn wait_for(
     followed: &mut FollowedMap,
 ) -> Ended {
     loop {
-        let look = end.min(Instant::now() + LOOK);
+        let look = end.min(Instant::now() + MAP_CHECK_INTERVAL);
         if let Some(answer) = client.link().answered_by(&asked, look) {
             return Ended::Answered(answer);
         }

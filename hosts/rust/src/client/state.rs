@@ -47,7 +47,7 @@ pub(crate) const BUSY_TICK: Duration = Duration::from_millis(20);
 pub(crate) const IDLE_TICK: Duration = Duration::from_millis(250);
 
 /// A read of this many keys at most asks only for those that the client does not know.
-const FEW: usize = 64;
+const SMALL_READ: usize = 64;
 
 /// The name of a job.
 pub(crate) type JobId = u64;
@@ -422,12 +422,12 @@ impl State {
     /// the first of them.
     fn end_of_unknown(&self, points: &Range<u64>, room: &mut Vec<Row>) -> u64 {
         let Range { start: mut unknown, end: mut known } = *points;
-        if known - unknown > FEW as u64 {
+        if known - unknown > SMALL_READ as u64 {
             return known;
         }
         room.clear();
         // Without room for the few rows each question would be answered that it is too short.
-        if room.try_reserve(FEW).is_err() {
+        if room.try_reserve(SMALL_READ).is_err() {
             return known;
         }
         while known - unknown > 1 {

@@ -138,7 +138,7 @@ impl WriteHalf {
 #[cfg(test)]
 mod tests {
     use super::*;
-    use crate::net::outbox::STALL;
+    use crate::net::outbox::MAX_STALL;
     use crate::net::stream::Stream;
     use std::io::Read;
     use std::os::unix::net::UnixStream;
@@ -180,7 +180,7 @@ mod tests {
         for _ in 0..20 {
             writer.write();
         }
-        assert!(begun.elapsed() < STALL, "{:?}", begun.elapsed());
+        assert!(begun.elapsed() < MAX_STALL, "{:?}", begun.elapsed());
         let mut received = Vec::new();
         while received.len() < sent.len() {
             let mut bytes = [0; 1 << 14];
@@ -199,8 +199,8 @@ mod tests {
         let (open, start) = (guard.as_mut().unwrap(), Instant::now());
         let mut write = |after| open.write(writer.pending(), start + after);
         assert_eq!(write(Duration::ZERO).unwrap(), WriteState::Pending);
-        assert_eq!(write(STALL / 2).unwrap(), WriteState::Pending);
-        assert_eq!(write(STALL).unwrap_err().kind(), ErrorKind::TimedOut);
+        assert_eq!(write(MAX_STALL / 2).unwrap(), WriteState::Pending);
+        assert_eq!(write(MAX_STALL).unwrap_err().kind(), ErrorKind::TimedOut);
     }
 
     #[test]

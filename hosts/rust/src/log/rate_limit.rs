@@ -2,7 +2,7 @@
 use std::time::{Duration, Instant};
 
 /// How long an event that repeats waits until it is reported again.
-const PAUSE: Duration = Duration::from_secs(1);
+const REPORT_INTERVAL: Duration = Duration::from_secs(1);
 
 /// Admits an event once a second, and counts those in between: for a log that strangers may fill.
 #[derive(Debug, Default)]
@@ -15,7 +15,8 @@ impl RateLimit {
     /// Returns how many events were passed over since the last one that was reported, if this one
     /// is to be reported.
     pub fn admits(&mut self, now: Instant) -> Option<u64> {
-        if self.logged.is_some_and(|logged| now.saturating_duration_since(logged) < PAUSE) {
+        if self.logged.is_some_and(|logged| now.saturating_duration_since(logged) < REPORT_INTERVAL)
+        {
             self.passed_over += 1;
             return None;
         }
@@ -33,11 +34,11 @@ mod tests {
         let (mut limit, start) = (RateLimit::default(), Instant::now());
         assert_eq!(limit.admits(start), Some(0));
         for _ in 0..5 {
-            assert_eq!(limit.admits(start + PAUSE / 2), None);
+            assert_eq!(limit.admits(start + REPORT_INTERVAL / 2), None);
         }
-        assert_eq!(limit.admits(start + PAUSE), Some(5));
-        assert_eq!(limit.admits(start + PAUSE), None);
-        assert_eq!(limit.admits(start + 3 * PAUSE), Some(1));
-        assert_eq!(limit.admits(start + 4 * PAUSE), Some(0));
+        assert_eq!(limit.admits(start + REPORT_INTERVAL), Some(5));
+        assert_eq!(limit.admits(start + REPORT_INTERVAL), None);
+        assert_eq!(limit.admits(start + 3 * REPORT_INTERVAL), Some(1));
+        assert_eq!(limit.admits(start + 4 * REPORT_INTERVAL), Some(0));
     }
 }

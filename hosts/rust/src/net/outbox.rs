@@ -3,7 +3,7 @@ use std::io::{self, ErrorKind, Write};
 use std::time::{Duration, Instant};
 
 /// A peer that takes nothing for this long loses its connection.
-pub(crate) const STALL: Duration = Duration::from_secs(5);
+pub(crate) const MAX_STALL: Duration = Duration::from_secs(5);
 
 /// This much room is kept for what is put next when all is written.
 const KEPT: usize = 1 << 14;
@@ -39,7 +39,7 @@ impl Outbox {
 
     /// Whether the peer takes nothing for so long that it loses its connection.
     pub fn is_stalled(&self, now: Instant) -> bool {
-        self.stalled.is_some_and(|since| now.saturating_duration_since(since) >= STALL)
+        self.stalled.is_some_and(|since| now.saturating_duration_since(since) >= MAX_STALL)
     }
 
     /// Writes what the stream takes at once.
@@ -126,13 +126,13 @@ mod tests {
         let (mut outbox, start) = (Outbox::default(), Instant::now());
         outbox.put(b"some bytes");
         outbox.write(&mut narrow(0), start).unwrap();
-        outbox.write(&mut narrow(0), start + STALL / 2).unwrap();
-        assert!(!outbox.is_stalled(start + STALL / 2));
-        assert!(outbox.is_stalled(start + STALL));
+        outbox.write(&mut narrow(0), start + MAX_STALL / 2).unwrap();
+        assert!(!outbox.is_stalled(start + MAX_STALL / 2));
+        assert!(outbox.is_stalled(start + MAX_STALL));
         // Each byte that it takes gives it the whole time again.
-        outbox.write(&mut narrow(1), start + STALL).unwrap();
-        assert!(!outbox.is_stalled(start + STALL));
-        assert!(outbox.is_stalled(start + 2 * STALL));
+        outbox.write(&mut narrow(1), start + MAX_STALL).unwrap();
+        assert!(!outbox.is_stalled(start + MAX_STALL));
+        assert!(outbox.is_stalled(start + 2 * MAX_STALL));
     }
 
     #[test]

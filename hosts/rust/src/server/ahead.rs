@@ -3,7 +3,7 @@
 use std::time::{Duration, SystemTime, UNIX_EPOCH};
 
 /// How far a client's clock may be ahead of the server's.
-const MOST: Duration = Duration::from_secs(24 * 60 * 60);
+const MAX_AHEAD: Duration = Duration::from_secs(24 * 60 * 60);
 
 /// The greatest incarnation that a server registers now. Incarnations are moments, in nanoseconds
 /// since 1970. One that follows the registered one is taken, so that a client that was registered
@@ -11,7 +11,7 @@ const MOST: Duration = Duration::from_secs(24 * 60 * 60);
 pub(crate) fn latest(registered: u64, now: SystemTime) -> u64 {
     let now = now.duration_since(UNIX_EPOCH).unwrap_or_default();
     let nanoseconds = |time: Duration| u64::try_from(time.as_nanos()).unwrap_or(u64::MAX);
-    nanoseconds(now).max(registered).saturating_add(nanoseconds(MOST))
+    nanoseconds(now).max(registered).saturating_add(nanoseconds(MAX_AHEAD))
 }
 
 #[cfg(test)]

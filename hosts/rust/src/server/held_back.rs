@@ -13,7 +13,7 @@ use std::time::{Duration, Instant};
 /// A server calls back again, for each waiter, with each message that acts. A client answers each
 /// callback by a release. So a busy server would repeat a callback many times before the first
 /// release comes, and would have to judge as many releases.
-const PAUSE: Duration = Duration::from_millis(5);
+const PAUSE_BETWEEN_REPEATS: Duration = Duration::from_millis(5);
 
 /// What went to each client just now.
 pub(crate) struct HeldBack {
@@ -89,7 +89,7 @@ impl SentMessage {
     }
 
     fn is_of_just_now(&self, now: Instant) -> bool {
-        now.saturating_duration_since(self.sent) < PAUSE
+        now.saturating_duration_since(self.sent) < PAUSE_BETWEEN_REPEATS
     }
 }
 
@@ -108,10 +108,10 @@ mod tests {
                 held.holds(client, Message::read(bytes), start + after)
             };
             assert!(!holds(3, &first, Duration::ZERO));
-            assert!(holds(3, &first, PAUSE / 2));
-            assert!(!holds(4, &first, PAUSE / 2), "it is another client");
-            assert!(!holds(3, &first, PAUSE));
-            assert!(!holds(3, &second, PAUSE), "it is another message");
+            assert!(holds(3, &first, PAUSE_BETWEEN_REPEATS / 2));
+            assert!(!holds(4, &first, PAUSE_BETWEEN_REPEATS / 2), "it is another client");
+            assert!(!holds(3, &first, PAUSE_BETWEEN_REPEATS));
+            assert!(!holds(3, &second, PAUSE_BETWEEN_REPEATS), "it is another message");
             assert!(!holds(64, &first, Duration::ZERO));
         }
         assert_eq!(held.count(), 2);

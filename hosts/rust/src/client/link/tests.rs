@@ -2,7 +2,7 @@
 use super::*;
 use crate::call::error::ErrorKind;
 use crate::lease::boot_clock::Moment;
-use crate::net::outbox::STALL;
+use crate::net::outbox::MAX_STALL;
 use crate::net::stream::{Listener, Stream};
 use crate::proved::client_handle::{ClientHandle, Scan};
 use crate::server::Server;
@@ -50,7 +50,7 @@ fn a_peer_that_takes_nothing_holds_no_call_beyond_its_deadline() {
                 let begun = Instant::now();
                 let read = link.ask(begun + SHORT, |state| state.read(0..9));
                 assert_eq!(read, Err(ErrorKind::TimedOut));
-                assert!(begun.elapsed() < STALL / 2, "{:?}", begun.elapsed());
+                assert!(begun.elapsed() < MAX_STALL / 2, "{:?}", begun.elapsed());
             });
         }
         let begun = Instant::now();
@@ -58,7 +58,7 @@ fn a_peer_that_takes_nothing_holds_no_call_beyond_its_deadline() {
             let found = link.cache().scan(&(0..9), &mut Vec::new(), Moment::now);
             assert_eq!(found, Ok(Scan::Miss(0)));
         }
-        assert!(begun.elapsed() < STALL / 2, "a look into the cache waits for no stream");
+        assert!(begun.elapsed() < MAX_STALL / 2, "a look into the cache waits for no stream");
     });
 }
 

@@ -13,7 +13,7 @@ use std::thread::sleep;
 use std::time::{Duration, Instant};
 
 /// How often a reader that waits for its server looks at the map.
-const LOOK: Duration = Duration::from_millis(50);
+const MAP_CHECK_INTERVAL: Duration = Duration::from_millis(50);
 
 /// A reader of one server: of its only one, or of that of a shard.
 #[derive(Debug)]
@@ -150,7 +150,7 @@ fn rest(pause: Duration, until: &mut Until<'_>) -> Result<(), ErrorKind> {
         if left.is_zero() {
             return until.refuse_elsewhere().map(drop);
         }
-        sleep(left.min(LOOK));
+        sleep(left.min(MAP_CHECK_INTERVAL));
         until.refuse_elsewhere()?;
     }
 }

@@ -18,7 +18,7 @@ use crate::model::change::Write;
 
 /// If the lock of a write was not free, this many writes ask for theirs first: it is the first of
 /// them.
-const PAUSE: u8 = 8;
+const WRITES_THAT_ASK_FIRST: u8 = 8;
 
 /// Whether writes try to take their locks, but for where others are at work.
 #[derive(Debug, Default)]
@@ -36,7 +36,7 @@ impl Attempts {
 
     /// The lock of a write was not free.
     pub fn note_not_free(&mut self) {
-        self.pause = PAUSE;
+        self.pause = WRITES_THAT_ASK_FIRST;
     }
 
     /// Whether the next write tries to take its lock. If it does not, the pause is shorter by one.

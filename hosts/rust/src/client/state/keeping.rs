@@ -30,7 +30,7 @@ use std::ops::Range;
 /// After this many rows were lost or scans answered it is decided; and after so few if it did not
 /// pay there before, or does not pay elsewhere.
 const ENOUGH: u32 = 16;
-const FEW: u32 = 3;
+const ENOUGH_IN_DOUBT: u32 = 3;
 
 /// This many reads of the server are not kept, before the client counts again.
 const FEWEST_READS: u16 = 256;
@@ -96,7 +96,7 @@ impl Region {
     /// The client has asked the server for what it has read here, and keeps it. `loses` is whether
     /// it loses more than it saves everywhere. Returns whether it no longer keeps what it has here.
     fn note_kept(&mut self, hits: u32, loses: bool) -> bool {
-        let enough = if loses || self.were_unkept > 0 { FEW } else { ENOUGH };
+        let enough = if loses || self.were_unkept > 0 { ENOUGH_IN_DOUBT } else { ENOUGH };
         let pays = self.count.pays(hits, enough);
         match pays {
             None => {}

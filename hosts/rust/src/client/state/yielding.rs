@@ -25,7 +25,7 @@ use reach::{TooFar, farthest};
 use std::ops::Range;
 
 /// This many rows are looked at to find where a gap ends.
-const FEW: usize = 64;
+const ROWS_AROUND_GAP: usize = 64;
 
 /// A slot that the client reads, and of which another client may have more or wait for more.
 #[derive(Clone, Debug, PartialEq, Eq)]
@@ -138,7 +138,7 @@ impl State {
 
     /// What the client knows of the slot of this point in a gap that it reads.
     fn slot_with_gap(&self, point: u64) -> Option<OnlyRead> {
-        let mut rows = Vec::with_capacity(FEW);
+        let mut rows = Vec::with_capacity(ROWS_AROUND_GAP);
         let below = farthest(point, |length| {
             let nearest = self.known_rows(&(point - length..point), &mut rows)?;
             Ok(nearest.last().map(|row| point - row.key - 1))

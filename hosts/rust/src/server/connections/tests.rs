@@ -19,7 +19,7 @@ const SOON: Duration = Duration::from_secs(10);
 const LONG: Duration = Duration::from_secs(31);
 
 /// Longer than a peer may take nothing.
-const STALL: Duration = Duration::from_secs(6);
+const LONG_STALL: Duration = Duration::from_secs(6);
 
 /// Connections, and their sockets.
 struct Rig {
@@ -294,7 +294,7 @@ fn a_peer_that_takes_nothing_stops_nobody_and_costs_a_bounded_room() {
     connections.wait(Duration::from_millis(200)).unwrap();
     assert!(begun.elapsed() >= Duration::from_millis(200));
     // After its time it is closed, and the other one is not.
-    connections.now = Now::read().after(STALL);
+    connections.now = Now::read().after(LONG_STALL);
     connections.close_dead();
     connections.settle();
     assert_eq!((connections.count(), connections.open.contains_key(&other)), (1, true));

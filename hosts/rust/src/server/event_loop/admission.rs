@@ -16,8 +16,8 @@ use crate::wire::message::{Kind, Message};
 use std::collections::VecDeque;
 use std::time::{Duration, Instant};
 
-/// How many requests that came lately may wait before others are kept.
-pub(super) const MOST: usize = 8;
+/// How many recent requests may wait before others are kept.
+pub(super) const MAX_RECENT_REQUESTS: usize = 8;
 
 /// How long a request counts as one that came lately.
 pub(super) const LATELY: Duration = Duration::from_millis(50);
@@ -86,7 +86,7 @@ impl EventLoop {
 
     /// Whether so many requests wait that came lately that others are kept.
     fn do_many_wait(&self, now: Instant) -> bool {
-        self.requests.count_waiting(now, LATELY) >= MOST
+        self.requests.count_waiting(now, LATELY) >= MAX_RECENT_REQUESTS
     }
 
     /// How soon after this moment a request that is kept may be taken without a message that comes,

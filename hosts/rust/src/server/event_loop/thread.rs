@@ -17,7 +17,7 @@ use std::sync::{Mutex, PoisonError};
 use std::time::{Duration, Instant};
 
 /// How long a turn looks up who holds what, if somebody asks.
-const LOOKS: Duration = Duration::from_millis(10);
+const LONGEST_LOOKUPS: Duration = Duration::from_millis(10);
 
 /// How long a server that ends waits until what it sent is written.
 const LAST_WRITES: Duration = Duration::from_millis(500);
@@ -98,7 +98,7 @@ impl<S: Store> ServerThread<S> {
                 }
                 Question::Locks(search, reply) => {
                     let began = Now::read();
-                    let turn_end = *looks_end.get_or_insert(began.monotonic + LOOKS);
+                    let turn_end = *looks_end.get_or_insert(began.monotonic + LONGEST_LOOKUPS);
                     let end = (began.monotonic + search.longest()).min(turn_end);
                     let is_late = || Instant::now() >= end;
                     let page = self.events.look_up(search, began, is_late);

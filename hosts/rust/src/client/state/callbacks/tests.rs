@@ -20,7 +20,7 @@ const BETWEEN: u64 = 500;
 
 /// The patient client's request and the callback, the release and the grant, the write and its
 /// answer: this many round trips without a hasty one. A release that is passed over is one more.
-const FEW: usize = 4;
+const FEW_TRIPS: usize = 4;
 const MANY: usize = 100;
 
 /// The hasty client has read the range that the patient one wants.
@@ -87,7 +87,7 @@ fn who_asks_for_one_lock_after_the_other_keeps_nobody_waiting() {
             read = Some(world.clients[HASTY].read(OTHER));
         }
     });
-    assert!(trips <= FEW, "{trips}");
+    assert!(trips <= FEW_TRIPS, "{trips}");
 }
 
 #[test]
@@ -100,7 +100,7 @@ fn who_writes_one_value_after_the_other_keeps_nobody_waiting() {
             written = Some(put(world, HASTY, 3));
         }
     });
-    assert!(trips <= FEW, "{trips}");
+    assert!(trips <= FEW_TRIPS, "{trips}");
 }
 
 #[test]
@@ -118,9 +118,9 @@ fn what_is_granted_after_a_callback_is_not_given_back_for_it() {
 fn who_awaits_no_push_releases_once() {
     let mut world = world();
     put(&mut world, PATIENT, 5);
-    let mut sent = trips(&mut world, FEW);
+    let mut sent = trips(&mut world, FEW_TRIPS);
     let read = world.clients[HASTY].read(OTHER);
-    sent.extend(trips(&mut world, FEW));
+    sent.extend(trips(&mut world, FEW_TRIPS));
     assert_eq!(read.answer.try_recv(), Ok(Ok(vec![])));
     assert_eq!(of_kind(RELEASE, sent), [RELEASE]);
 }

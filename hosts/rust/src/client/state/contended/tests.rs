@@ -1,4 +1,4 @@
-use super::PAUSE;
+use super::WRITES_THAT_ASK_FIRST;
 use crate::call::error::ErrorKind;
 use crate::client::state::bound::Wanted;
 use crate::client::state::callbacks::CONTENDED_FOR;
@@ -109,12 +109,13 @@ fn one_trip_is_made_in_vain_where_another_client_holds_the_row() {
 
 #[test]
 fn some_writes_take_nothing_after_a_trip_in_vain() {
-    let keys: Vec<u64> = (1..=1 + u64::from(PAUSE)).map(|place| 10 * place).collect();
+    let keys: Vec<u64> =
+        (1..=1 + u64::from(WRITES_THAT_ASK_FIRST)).map(|place| 10 * place).collect();
     let mut world = world_with(&keys);
     world.read(OTHER, 10..11);
     let mut sent = keys.iter().map(|key| sent_for(&mut world, Write::Put(row(*key, 2))));
     assert_eq!(sent.next().unwrap(), [TAKING_PUT, LOCK, PUT], "in vain");
-    for _ in 1..PAUSE {
+    for _ in 1..WRITES_THAT_ASK_FIRST {
         assert_eq!(sent.next().unwrap(), [LOCK, PUT]);
     }
     assert_eq!(sent.next().unwrap(), [TAKING_PUT], "the pause is over");

@@ -174,7 +174,7 @@ fn each_time_that_it_does_not_pay_the_client_counts_again_later() {
     let mut region = Region::default();
     let mut unkept = Vec::new();
     for turn in 0..6 {
-        region.count.lost = if turn == 0 { ENOUGH } else { FEW };
+        region.count.lost = if turn == 0 { ENOUGH } else { ENOUGH_IN_DOUBT };
         region.note_kept(0, false);
         unkept.push(region.unkept);
         while region.unkept > 0 {
@@ -183,12 +183,12 @@ fn each_time_that_it_does_not_pay_the_client_counts_again_later() {
     }
     assert_eq!(unkept, [256, 512, 1024, 2048, 4096, 4096]);
     region.count.lost = 1;
-    region.note_kept(FEW, false);
+    region.note_kept(ENOUGH_IN_DOUBT, false);
     assert!(region.unkept == 0 && region.were_unkept == 0, "it pays");
-    region.count.lost = FEW;
-    region.note_kept(FEW, false);
+    region.count.lost = ENOUGH_IN_DOUBT;
+    region.note_kept(ENOUGH_IN_DOUBT, false);
     assert_eq!(region.unkept, 0, "that is little, and it has paid");
-    region.note_kept(FEW, true);
+    region.note_kept(ENOUGH_IN_DOUBT, true);
     assert!(region.unkept > 0, "it does not pay elsewhere either");
 }
 

@@ -173,7 +173,7 @@ impl HastyReaders {
 }
 
 /// This many round trips does a write take that is not kept waiting, and a few more.
-const FEW: usize = 8;
+const FEW_TRIPS: usize = 8;
 
 #[test]
 fn who_reads_again_what_was_called_back_keeps_no_writer_waiting() {
@@ -186,7 +186,7 @@ fn who_reads_again_what_was_called_back_keeps_no_writer_waiting() {
         world.settle();
         for key in [5, 7] {
             let insert = world.clients[2].write(Write::Insert(row(key, 1)));
-            let is_done = (0..FEW).any(|_| {
+            let is_done = (0..FEW_TRIPS).any(|_| {
                 readers.trip(&mut world);
                 insert.answer.try_recv() == Ok(Ok(Outcome::Applied))
             });

@@ -11,7 +11,7 @@ use crate::net::address::Address;
 use crate::net::stream::PeerAddress;
 use crate::proved::client_handle::ClientHandle;
 use crate::server::event_loop::EventLoop;
-use crate::server::event_loop::admission::{LATELY, MOST};
+use crate::server::event_loop::admission::{LATELY, MAX_RECENT_REQUESTS};
 use crate::server::opening::Decided;
 use crate::server::shown::timings::Timings;
 use crate::store::MemoryStore;
@@ -139,7 +139,7 @@ fn what_a_release_has_granted_is_called_back_for_who_waits_for_it() {
 /// A world of more clients than may wait at once. The first one has pinned a row for a write, and
 /// all others have begun to read it.
 fn crowd() -> (World, u64, Vec<Asked<Vec<Row>>>) {
-    let readers = MOST + 3;
+    let readers = MAX_RECENT_REQUESTS + 3;
     let mut world = World::of(u8::try_from(readers + 1).unwrap());
     let inserted = world.ask(0, |state| state.write(Write::Insert(row(10, 1))));
     assert_eq!(inserted.answer.try_recv(), Ok(Ok(Outcome::Applied)));
@@ -156,11 +156,11 @@ fn have_read(reads: &[Asked<Vec<Row>>]) -> bool {
 #[test]
 fn while_many_wait_other_requests_are_taken_one_after_the_other() {
     let (mut world, pin, reads) = crowd();
-    assert_eq!(world.events.requests.waiting().count(), MOST);
+    assert_eq!(world.events.requests.waiting().count(), MAX_RECENT_REQUESTS);
     // What one of those asks again that are kept is no further request.
-    world.clients[MOST + 1].tick();
+    world.clients[MAX_RECENT_REQUESTS + 1].tick();
     world.settle();
-    assert_eq!(world.events.requests.waiting().count(), MOST);
+    assert_eq!(world.events.requests.waiting().count(), MAX_RECENT_REQUESTS);
     world.unpin(0, pin);
     assert!(have_read(&reads));
 }
@@ -175,7 +175,7 @@ fn a_request_that_has_waited_for_long_keeps_no_other_one_back() {
     // One that comes now is taken after those that are kept.
     let other = world.clients[0].read(20..21);
     world.deliver_to_server();
-    assert_eq!(world.events.requests.waiting().count(), MOST);
+    assert_eq!(world.events.requests.waiting().count(), MAX_RECENT_REQUESTS);
     world.settle();
     assert_eq!(world.events.requests.waiting().count(), reads.len());
     assert_eq!(other.answer.try_recv(), Ok(Ok(Vec::new())));
