@@ -290,9 +290,9 @@ mod tests {
             assert_eq!(Failure::of_call(refused).status(), status, "{refused:?}");
             let written = Failure::of_write(refused.into(), 15, 3);
             assert_eq!(written.status(), status, "{refused:?}");
-            let told = "may have been applied: read the key 15 with --number 3";
-            let is_told = written.to_string().ends_with(told);
-            assert_eq!(is_told, Error::from(refused).is_unknown_outcome(), "{written}");
+            let reported = "may have been applied: read the key 15 with --number 3";
+            let is_reported = written.to_string().ends_with(reported);
+            assert_eq!(is_reported, Error::from(refused).is_unknown_outcome(), "{written}");
         }
     }
 }

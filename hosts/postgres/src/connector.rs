@@ -69,7 +69,21 @@ impl Connector {
     ///
     /// If the database does not answer, or refuses the user; if TLS fails.
     pub async fn connect(&self) -> Result<(Client, Carrier), Error> {
-        self.connect_and_tell(Arc::default()).await
+        self.connect_and_notify(Arc::default()).await
+    }
+
+    /// The same. `notify` is signaled at each notification, and at the end of the connection.
+    pub(crate) async fn connect_and_notify(
+        &self,
+        notify: Arc<Notify>,
+    ) -> Result<(Client, Carrier), Error> {
+        if let Some(tls) = &self.tls {
+            let (client, connection) = self.config.connect(tls.clone()).await?;
+            Ok((client, Carrier(tokio::spawn(carry(connection, notify)))))
+        } else {
+            let (client, connection) = self.config.connect(NoTls).await?;
+            Ok((client, Carrier(tokio::spawn(carry(connection, notify)))))
+        }
     }
 
     /// Asks the database, over a connection of its own, to cancel the statement of the connection of
@@ -84,34 +98,20 @@ impl Connector {
             None => token.cancel_query(NoTls).await,
         }
     }
-
-    /// The same. What is told learns of each notification, and of the end of the connection.
-    pub(crate) async fn connect_and_tell(
-        &self,
-        told: Arc<Notify>,
-    ) -> Result<(Client, Carrier), Error> {
-        if let Some(tls) = &self.tls {
-            let (client, connection) = self.config.connect(tls.clone()).await?;
-            Ok((client, Carrier(tokio::spawn(carry(connection, told)))))
-        } else {
-            let (client, connection) = self.config.connect(NoTls).await?;
-            Ok((client, Carrier(tokio::spawn(carry(connection, told)))))
-        }
-    }
 }
 
 /// Carries a connection until it ends. How it ended is reported to the caller whose query fails.
-async fn carry<S, T>(mut connection: Connection<S, T>, told: Arc<Notify>)
+async fn carry<S, T>(mut connection: Connection<S, T>, notify: Arc<Notify>)
 where
     S: AsyncRead + AsyncWrite + Unpin,
     T: AsyncRead + AsyncWrite + Unpin,
 {
     while let Some(Ok(message)) = poll_fn(|context| connection.poll_message(context)).await {
         if matches!(message, AsyncMessage::Notification(_)) {
-            told.notify_one();
+            notify.notify_one();
         }
     }
-    told.notify_one();
+    notify.notify_one();
 }
 
 impl fmt::Debug for Connector {

@@ -53,7 +53,7 @@ pub struct PostgresMap {
 struct Session {
     client: Client,
     /// It is notified of each change, and of the end of the connection.
-    told: Arc<Notify>,
+    notify: Arc<Notify>,
     _carrier: Carrier,
 }
 
@@ -95,11 +95,11 @@ impl PostgresMap {
 
     /// Waits until the map may be another one than was last read, and for this time at most.
     pub fn wait(&mut self, most: Duration) {
-        let told = self.session.as_ref().map(|session| Arc::clone(&session.told));
+        let notify = self.session.as_ref().map(|session| Arc::clone(&session.notify));
         self.runtime.block_on(async {
-            match told {
+            match notify {
                 // That nothing came in time is no error.
-                Some(told) => drop(timeout(most, told.notified()).await),
+                Some(notify) => drop(timeout(most, notify.notified()).await),
                 None => sleep(PAUSE_WITHOUT_CONNECTION.min(most)).await,
             }
         });
@@ -130,11 +130,11 @@ impl PostgresMap {
 }
 
 async fn listen(connector: &Connector) -> Result<Session, Error> {
-    let told = Arc::new(Notify::new());
-    let (client, carrier) = connector.connect_and_tell(Arc::clone(&told)).await?;
+    let notify = Arc::new(Notify::new());
+    let (client, carrier) = connector.connect_and_notify(Arc::clone(&notify)).await?;
     client.batch_execute(sql::SESSION).await?;
     client.batch_execute(sql::LISTEN).await?;
-    Ok(Session { client, told, _carrier: carrier })
+    Ok(Session { client, notify, _carrier: carrier })
 }
 
 async fn has_table(client: &Client) -> Result<bool, Error> {
@@ -213,6 +213,6 @@ mod tests {
         database.stop();
         one.wait(LONG);
         assert!(one.read().is_err());
-        assert!(begun.elapsed() < LONG, "it was told of each change");
+        assert!(begun.elapsed() < LONG, "it was notified of each change");
     }
 }

@@ -21,7 +21,7 @@ use std::collections::BTreeMap;
 use std::fmt::Display;
 use std::time::Instant;
 
-macro_rules! tell {
+macro_rules! report {
     ($level:ident, $($event:tt)*) => {{
         #[cfg(feature = "tracing")]
         tracing::$level!($($event)*);
@@ -29,11 +29,11 @@ macro_rules! tell {
 }
 
 /// The same of an event of a connection that may come often: see [`RateLimit`].
-macro_rules! tell_seldom {
+macro_rules! report_seldom {
     ($limit:expr, $level:ident $at:ident [$($field:tt)*] $text:literal) => {
         if let Some(passed_over) = $limit.admits(Instant::now()) {
             let At { connection, peer } = $at;
-            tell!($level, connection, %peer, $($field)* passed_over, $text);
+            report!($level, connection, %peer, $($field)* passed_over, $text);
         }
     };
 }
@@ -76,7 +76,7 @@ pub(crate) struct EventLog {
 impl EventLog {
     /// A server has started on these records.
     pub fn started(epoch: u64, address: &Address, rows: usize, records: &[Record]) -> EventLog {
-        tell!(info, epoch, %address, rows, clients = records.len(), "the server has started");
+        report!(info, epoch, %address, rows, clients = records.len(), "the server has started");
         let clients = records.iter().map(|it| (it.client, (it.incarnation, it.left))).collect();
         EventLog { clients, ..EventLog::default() }
     }
@@ -85,10 +85,13 @@ impl EventLog {
     /// be intended, or a mistake.
     pub fn has_room(rows: usize, room: Room, greatest: Room) {
         if room < greatest {
-            tell!(warn, %room, %greatest, "the server has less room than one had before it");
+            report!(warn, %room, %greatest, "the server has less room than one had before it");
         }
         if rows >= room.rows() {
-            tell!(warn, %room, "the table is full, so every insert fails: give the server more room");
+            report!(
+                warn, %room,
+                "the table is full, so every insert fails: give the server more room"
+            );
         }
     }
 
@@ -99,9 +102,9 @@ impl EventLog {
             return;
         }
         if is_serving {
-            tell!(info, "the server serves");
+            report!(info, "the server serves");
         } else {
-            tell!(info, ?missing, "the server recovers: reports are missing");
+            report!(info, ?missing, "the server recovers: reports are missing");
         }
         self.is_serving = Some(is_serving);
         missing.clone_into(&mut self.missing);
@@ -136,13 +139,13 @@ impl EventLog {
             let before = self.clients.insert(client, (incarnation, false));
             let evicted = before.map(|(incarnation, _)| incarnation);
             match ended {
-                Ended::Lease => tell!(
+                Ended::Lease => report!(
                     warn,
                     client,
                     incarnation = evicted,
                     "a client is evicted: its lease has ended, and no sign of it came"
                 ),
-                Ended::Process => tell!(
+                Ended::Process => report!(
                     warn,
                     client,
                     incarnation = evicted,
@@ -153,7 +156,7 @@ impl EventLog {
         }
         match self.clients.insert(client, (incarnation, false)) {
             Some((before, false)) => {
-                tell!(
+                report!(
                     warn,
                     client,
                     incarnation,
@@ -163,7 +166,7 @@ impl EventLog {
                 );
             }
             Some((_, true)) | None => {
-                tell!(info, client, incarnation, %peer, "a client has joined");
+                report!(info, client, incarnation, %peer, "a client has joined");
             }
         }
     }
@@ -174,62 +177,62 @@ impl EventLog {
             if self.evicting.remove(&client).is_some_and(|(it, _)| it == *incarnation) {
                 return;
             }
-            tell!(info, client, incarnation = *incarnation, "a client has left");
+            report!(info, client, incarnation = *incarnation, "a client has left");
         }
     }
 
     /// The client of a connection takes the server for another shard's, and is closed.
     pub fn other_shard(&mut self, at: &At, other: &OtherShard) {
-        tell_seldom!(self.other_shards, warn at [] "a connection is closed: {other}");
+        report_seldom!(self.other_shards, warn at [] "a connection is closed: {other}");
     }
 
     /// A connection sent what is not a message, and is closed.
     pub fn bad_message(&mut self, at: &At, length: usize) {
-        tell_seldom!(self.bad_messages, warn at [length,]
+        report_seldom!(self.bad_messages, warn at [length,]
             "a connection is closed: it sent something that is not a message");
     }
 
     /// A message names an incarnation that is not the client's.
     pub fn stranger(&mut self, at: &At, client: u8, incarnation: u64) {
         let registered = self.clients.get(&client).map(|(incarnation, _)| *incarnation);
-        tell_seldom!(self.strangers, warn at [client, incarnation, registered,]
+        report_seldom!(self.strangers, warn at [client, incarnation, registered,]
             "a message is ignored: it is of another incarnation than the client's");
     }
 
     /// A client is not registered: its incarnation is too far ahead of this machine's clock.
     pub fn far_ahead(&mut self, at: &At, client: u8, incarnation: u64) {
-        tell_seldom!(self.far_ahead, warn at [client, incarnation,]
+        report_seldom!(self.far_ahead, warn at [client, incarnation,]
             "a client is not registered: its clock is more than a day ahead of this one");
     }
 
     /// A client has seen another store, and is refused.
     pub fn other_store(&mut self, at: &At) {
-        tell_seldom!(self.other_stores, warn at []
+        report_seldom!(self.other_stores, warn at []
             "a client is refused: it has seen another store than this one");
     }
 
     /// A client's host is of another version of the stream, and is refused.
     pub fn other_version(&mut self, at: &At) {
-        tell_seldom!(self.other_versions, warn at []
+        report_seldom!(self.other_versions, warn at []
             "a client is refused: its release is of another version of the protocol");
     }
 
     /// A connection sent what its identity may not send, and is closed.
     pub fn denied(&mut self, at: &At, identity: &Identity, client: Option<u8>) {
-        tell_seldom!(self.denials, warn at [%identity, client,]
+        report_seldom!(self.denials, warn at [%identity, client,]
             "a connection is closed: it sent what its certificate or its user may not send");
     }
 
     /// The store lacks what a client's host has seen of it.
     pub fn store_alarm(&mut self, at: &At, seen: Mark) {
-        tell_seldom!(self.store_alarms, error at [?seen,]
+        report_seldom!(self.store_alarms, error at [?seen,]
             "ALARM: the store lacks what a client has seen: it is an older copy, or another one");
     }
 
     /// A report contradicts what the server knows.
     pub fn alarm(&mut self, client: Option<u8>) {
         if let Some(passed_over) = self.alarms.admits(Instant::now()) {
-            tell!(
+            report!(
                 error,
                 client,
                 passed_over,
@@ -242,7 +245,7 @@ impl EventLog {
 
 /// A client has learned that its server's store went back.
 pub(crate) fn store_went_back(server: &Address) {
-    tell!(
+    report!(
         error,
         %server,
         "ALARM: the server's store lacks what this client has seen of it: the client drops its \
@@ -252,7 +255,7 @@ pub(crate) fn store_went_back(server: &Address) {
 
 /// A client has learned that its server serves another store.
 pub(crate) fn store_is_another_one(server: &Address) {
-    tell!(
+    report!(
         error,
         %server,
         "the server serves another store than the one that this client has seen: the client drops \
@@ -262,7 +265,7 @@ pub(crate) fn store_is_another_one(server: &Address) {
 
 /// A client continues under a greater incarnation.
 pub(crate) fn began_again(client: u8, incarnation: u64) {
-    tell!(
+    report!(
         info,
         client,
         incarnation,
@@ -273,37 +276,37 @@ pub(crate) fn began_again(client: u8, incarnation: u64) {
 /// A client continues by the map of this version.
 #[cfg(feature = "map-file")]
 pub(crate) fn follows_map(version: u64) {
-    tell!(info, version, "a client continues by the next map");
+    report!(info, version, "a client continues by the next map");
 }
 
 /// A client that follows its map does not continue by what it has found.
 #[cfg(feature = "map-file")]
 pub(crate) fn cannot_follow(limit: &mut RateLimit, error: &dyn Display) {
     if let Some(passed_over) = limit.admits(Instant::now()) {
-        tell!(warn, %error, passed_over, "a client can't continue by the map that it follows");
+        report!(warn, %error, passed_over, "a client can't continue by the map that it follows");
     }
 }
 
 /// The server has ended by an error.
 pub(crate) fn failed(error: &dyn Display) {
-    tell!(error, %error, "the server has failed");
+    report!(error, %error, "the server has failed");
 }
 
 /// A connection is taken.
 pub(crate) fn opened(at: &At) {
-    tell!(debug, connection = at.connection, peer = %at.peer, "a connection is open");
+    report!(debug, connection = at.connection, peer = %at.peer, "a connection is open");
 }
 
 /// A connection is closed.
 pub(crate) fn closed(at: &At, reason: &str) {
-    tell!(debug, connection = at.connection, peer = %at.peer, reason, "a connection is closed");
+    report!(debug, connection = at.connection, peer = %at.peer, reason, "a connection is closed");
 }
 
 /// A connection is closed by the server for a reason about which an operator may have to do
 /// something.
 pub(crate) fn closed_by_server(at: &At, reason: &str, why: &dyn Display, passed_over: u64) {
     let why = why.to_string();
-    tell!(
+    report!(
         warn,
         connection = at.connection,
         peer = %at.peer,
@@ -316,16 +319,16 @@ pub(crate) fn closed_by_server(at: &At, reason: &str, why: &dyn Display, passed_
 /// The system gives no connection just now.
 pub(crate) fn not_accepted(limit: &mut RateLimit, error: &dyn Display) {
     if let Some(passed_over) = limit.admits(Instant::now()) {
-        tell!(warn, %error, passed_over, "the system accepts no connection");
+        report!(warn, %error, passed_over, "the system accepts no connection");
     }
 }
 
 /// A client has a connection.
 pub(crate) fn connected(server: &Address) {
-    tell!(debug, %server, "a client is connected");
+    report!(debug, %server, "a client is connected");
 }
 
 /// A client has no connection, or has lost it.
 pub(crate) fn disconnected(server: &Address, error: &dyn Display) {
-    tell!(debug, %server, %error, "a client is not connected");
+    report!(debug, %server, %error, "a client is not connected");
 }

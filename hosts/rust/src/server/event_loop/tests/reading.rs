@@ -109,7 +109,7 @@ fn a_turn_takes_no_readers_next_to_clients_that_have_had_less_time() {
     assert_eq!((serving.events.status.taken, ready(&serving)), (4, [0, READERS]));
     // Then no client sends anything.
     assert_eq!(left_after_some(&mut serving), READERS - MAX_OF_READERS);
-    // The turn that took them has told how long that took.
+    // The turn that took them has reported how long that took.
     let (reads, later) = (serving.events.reads(), now + Duration::from_secs(600));
     reads.note_clients(later);
     assert!(reads.are_due(later));
