@@ -171,8 +171,6 @@ typedef enum krlc_code {
     KRLC_OUT_OF_MEMORY = 63,
     /* The system has no thread for the client's connection. */
     KRLC_NO_THREAD = 64,
-    /* Of krl_host.h: the connection has to end. No call of this header returns it. */
-    KRLC_DISCONNECT = 65,
     /* The write was not sent within the timeout: the client was not connected, or waited for a lock. The error has the
      * server's reason if it gave one. Or the server's store went back, or the client's thread ended, before the write
      * was sent: the error's text states which. Also of one of several writes: it was not made. */

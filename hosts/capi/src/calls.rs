@@ -23,12 +23,10 @@ macro_rules! row_call {
     };
 }
 
-mod host;
 mod pins;
 mod readers;
 mod room;
 
-pub use host::*;
 pub use pins::*;
 pub use readers::*;
 use room::emptied;

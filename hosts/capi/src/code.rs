@@ -36,7 +36,6 @@ krl_ffi::codes! {
     PinIsVoid = 62, c"KRLC_PIN_IS_VOID";
     OutOfMemory = 63, c"KRLC_OUT_OF_MEMORY";
     NoThread = 64, c"KRLC_NO_THREAD";
-    Disconnect = 65, c"KRLC_DISCONNECT";
     NotMade = 66, c"KRLC_NOT_MADE";
     NothingListens = 67, c"KRLC_NOTHING_LISTENS";
 }

@@ -1,10 +1,8 @@
-//! Compares `include/krl_client.h` and `include/krl_host.h` with the calls, the structs and the
-//! codes of this library: a C compiler compares what the headers declare with what is here.
+//! Compares `include/krl_client.h` with the calls, the structs and the codes of this library: a C
+//! compiler compares what the header declares with what is here.
 use crate::calls::krlc_version;
 use crate::code::Code;
 use crate::fault::{ErrorRoom, MAX_SENTENCE_BYTES};
-use crate::host::{Answer, CallBack, NEVER, NO_PIN};
-use crate::host_options::HostOptions;
 use crate::input::GivenRow;
 use crate::options::{NUMBERS, Options};
 use crate::reason::{self, NO_REASON};
@@ -17,23 +15,16 @@ use std::collections::{BTreeMap, BTreeSet};
 use std::fmt::Write as _;
 
 const HEADER: &str = include_str!("../include/krl_client.h");
-const HOST_HEADER: &str = include_str!("../include/krl_host.h");
 
-const SOURCES: [&str; 5] = [
+const SOURCES: [&str; 4] = [
     include_str!("calls.rs"),
-    include_str!("calls/host.rs"),
     include_str!("calls/pins.rs"),
     include_str!("calls/readers.rs"),
     include_str!("calls/room.rs"),
 ];
 
-/// Both headers as one.
-fn headers() -> String {
-    HEADER.to_string() + &HOST_HEADER.replace("#include \"krl_client.h\"", "")
-}
-
 /// What each type of a call is in C.
-const TYPES: [(&str, &str); 28] = [
+const TYPES: [(&str, &str); 23] = [
     ("bool", "bool"),
     ("u32", "uint32_t"),
     ("u64", "uint64_t"),
@@ -57,11 +48,6 @@ const TYPES: [(&str, &str); 28] = [
     ("*const Row", "const krlc_row *"),
     ("*const GivenRow", "const krlc_row *"),
     ("*mut GivenWrite", "krlc_write *"),
-    ("*const HostOptions", "const krlh_options *"),
-    ("*mut HostHandle", "krlh_client *"),
-    ("*mut *mut HostHandle", "krlh_client **"),
-    ("CallBack", "krlh_asked"),
-    ("Clock", "uint64_t (*)(void)"),
 ];
 
 /// The calls that are exported, with the pointer type of each in C.
@@ -70,7 +56,7 @@ fn exports() -> BTreeMap<String, String> {
 }
 
 fn declared(header: &str) -> BTreeSet<String> {
-    header::declared(header, &["krlc_", "krlh_"])
+    header::declared(header, &["krlc_"])
 }
 
 /// A program in C that compiles if this header has the same as the library.
@@ -103,8 +89,6 @@ fn program(header: &str) -> String {
         ("KRLC_PUT", 1),
         ("KRLC_SET", 2),
         ("KRLC_DELETE", 3),
-        ("KRLH_NO_PIN", NO_PIN.into()),
-        ("KRLH_NEVER", NEVER.into()),
     ];
     let numbers: Vec<_> = codes.chain(reasons).chain(numbers).collect();
     let mut program = header::program(header, &exports(), &numbers);
@@ -114,18 +98,15 @@ fn program(header: &str) -> String {
     layout!(program, Status, "krlc_status", shard epoch incarnation lease_left_ms is_connected);
     layout!(program, Options, "krlc_options", size servers map lock_file number numbers timeout_ms
         wait_if_in_use_ms tls_authority tls_certificate tls_key table lo hi);
-    layout!(program, HostOptions, "krlh_options", size lock_file shard number servers seed);
-    layout!(program, Answer, "krlh_answer", code pin rows count sentence);
-    layout!(program, CallBack, "krlh_asked", answered context deadline);
     program
 }
 
 #[test]
 fn the_header_declares_what_the_library_exports() {
     let exported: BTreeSet<String> = exports().into_keys().collect();
-    assert_eq!(exported, declared(&headers()));
+    assert_eq!(exported, declared(HEADER));
     assert!(exported.len() > 40, "{exported:?}");
-    assert!(compiles(&program(&headers()), true), "the compiler shows what differs");
+    assert!(compiles(&program(HEADER), true), "the compiler shows what differs");
 }
 
 #[test]
@@ -151,11 +132,9 @@ fn a_header_that_differs_is_found() {
         ("KRLC_REASON_FULL = 3", "KRLC_REASON_FULL = 4"),
         ("#define KRLC_VERSION_MINOR 1", "#define KRLC_VERSION_MINOR 2"),
         ("void krlc_rows_free(krlc_rows *rows);", ""),
-        ("uint64_t krlh_due(", "uint32_t krlh_due("),
-        ("    uint64_t pin;", "    uint32_t pin;"),
     ] {
-        let other = headers().replacen(old, new, 1);
-        assert_ne!(other, headers(), "{old}");
+        let other = HEADER.replacen(old, new, 1);
+        assert_ne!(other, HEADER, "{old}");
         assert!(!compiles(&program(&other), false), "{new}");
     }
 }

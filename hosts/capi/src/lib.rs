@@ -1,5 +1,4 @@
-//! The client of the crate `krl` as a library for C: `include/krl_client.h` describes each call, and
-//! `include/krl_host.h` those of a client without sockets.
+//! The client of the crate `krl` as a library for C: `include/krl_client.h` describes each call.
 //!
 //! Whatever comes from C is examined here: pointers, lengths, texts, handles, and the process that
 //! makes the call. What is past these checks is Rust that needs no `unsafe`.
@@ -7,8 +6,6 @@ mod calls;
 mod client;
 mod code;
 mod fault;
-mod host;
-mod host_options;
 mod input;
 mod options;
 mod pin;

@@ -212,27 +212,6 @@ fn many_threads_with_the_sanitizer_of_threads() {
 }
 
 #[test]
-fn a_client_without_sockets_over_connections_that_break() {
-    World::new("host").runs("cc", "tests/programs/host_loop.c", &[]);
-}
-
-#[test]
-fn a_client_without_sockets_with_leases_and_sanitizers_of_memory() {
-    let world = World::leased("host-memory", Duration::from_secs(60));
-    world.runs("cc", "tests/programs/host_loop.c", MEMORY);
-}
-
-#[test]
-fn a_client_without_sockets_with_the_sanitizer_of_threads() {
-    World::new("host-threads").runs("cc", "tests/programs/host_loop.c", THREADS);
-}
-
-#[test]
-fn calls_of_a_host_that_none_should_make_with_sanitizers_of_memory() {
-    World::new("hostile-host").runs("cc", "tests/programs/hostile_host.c", MEMORY);
-}
-
-#[test]
 fn a_server_that_goes_away_ends_no_program() {
     World::at_socket("parting").ends_under("tests/programs/parting.c", "joined\n");
 }
@@ -334,26 +313,6 @@ fn the_example_in_c() {
     world.build("cc", "examples/hello.c", &[]);
     let printed = world.run(&[&world.place, &text(&world.folder.join("hello.lock"))]);
     assert_eq!(printed, "15=hello\n");
-}
-
-/// The example ends when another client changes what it watches.
-#[test]
-fn the_example_of_a_host() {
-    let world = World::new("embedded");
-    world.build("cc", "examples/embedded_host.c", &[]);
-    let port = world.place.rsplit(':').next().unwrap();
-    let mut program = Command::new(world.program())
-        .args([port, &text(&world.folder.join("embedded.lock"))])
-        .stdout(Stdio::piped())
-        .spawn()
-        .unwrap();
-    let mut printed = BufReader::new(program.stdout.take().unwrap()).lines();
-    assert_eq!(printed.next().unwrap().unwrap(), "15=hello");
-    let servers: Servers = world.place.parse().unwrap();
-    let other = Client::join(servers, 4, world.folder.join("other.lock")).unwrap();
-    assert_eq!(other.put(15, "world".try_into().unwrap()), Ok(Outcome::Applied));
-    assert_eq!(printed.next().unwrap().unwrap(), "changed");
-    assert!(program.wait().unwrap().success());
 }
 
 #[test]

@@ -47,7 +47,7 @@
 //! | `serde` | `Row`, `Value`, `Status` and others as `serde` has them |
 //! | `fence` | what a store needs that several servers may open at once |
 //! | `store-tests` | the tests that every store has to pass |
-//! | `sans-io` | for the interface for C and the tests of this repository: not stable |
+//! | `sans-io` | for the tests of this repository: not stable |
 mod access;
 mod call;
 mod client;

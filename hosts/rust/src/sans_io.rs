@@ -1,10 +1,7 @@
-//! A client without sockets, threads and clocks, for hosts that have their own: bytes go in, bytes
-//! come out, and each call gets the time. The incarnations of its number are inside.
-//!
-//! `hosts/capi` has it for C, by `krl_host.h`, with the lock file of the number. `hosts/simulation`
-//! has it with a disk of its own. Nothing here is a part of the interface in Rust, whose client is
-//! [`crate::Client`].
-use crate::call::error::{Error, ErrorKind, JoinError, JoinErrorKind};
+//! A client without sockets, threads and clocks, for `hosts/simulation`: bytes go in, bytes come
+//! out, and each call gets the time. The incarnations of its number are inside. Nothing here is a
+//! part of the interface, whose client is [`crate::Client`].
+use crate::call::error::{Error, ErrorKind};
 use crate::client::engine;
 use crate::client::session::Session;
 use crate::client::state::{Asked, State};
@@ -12,21 +9,17 @@ use crate::lease::boot_clock::Moment;
 use crate::lease::clocks::Now;
 use crate::lease::terms::Sign;
 use crate::model::change::{Outcome, Write};
-use crate::model::client_number::ClientNumber;
 use crate::model::row::Row;
-use crate::model::shard_bounds::ShardBounds;
 use crate::net::servers::Servers;
-use crate::proved::client_handle::{Cache, ClientHandle, Scan};
+use crate::proved::client_handle::{ClientHandle, Scan};
 use crate::wire::frames::{self, Frames};
 use std::fmt;
 use std::io;
 use std::ops::Range;
-use std::path::Path;
 use std::sync::mpsc::TryRecvError;
 use std::time::Duration;
 
 pub use crate::client::incarnations::Incarnations;
-pub use crate::client::lock_file::LockFile;
 pub use crate::client::state::{Held, Purpose};
 pub use crate::lease::terms::Older;
 #[cfg(feature = "tls")]
@@ -34,7 +27,7 @@ pub use crate::net::tls::TlsSession;
 
 /// A client. A moment is a time by a clock that continues while the machine is suspended, and never
 /// goes back.
-pub struct Client<N = LockFile> {
+pub struct Client<N> {
     session: Session,
     incarnations: N,
     frames: Frames,
@@ -44,26 +37,8 @@ pub struct Client<N = LockFile> {
     now: Duration,
 }
 
-/// What a client with a lock file begins with.
-#[derive(Clone, Copy, Debug)]
-pub struct Begin<'p> {
-    /// Its number.
-    pub number: u8,
-    /// The lock file of this number.
-    pub lock_file: &'p Path,
-    /// How many servers stand by over the store. It connects to one at a time.
-    pub servers: usize,
-    /// The shard that it takes them for, if not for servers of all keys.
-    pub shard: Option<ShardBounds>,
-    /// It draws its pauses between connections by this.
-    pub seed: u64,
-}
-
 /// Something that a client was asked to do.
 pub struct Call<T>(Asked<T>);
-
-/// What the cache knows, for any number of threads.
-pub struct CacheView(Cache);
 
 /// What a cache knows of a range.
 #[derive(Clone, Copy, Debug, PartialEq, Eq)]
@@ -90,48 +65,10 @@ impl<T> Call<T> {
     }
 }
 
-impl CacheView {
-    /// Reads the range into `rows`, in place of what they are, and returns what the cache knows of
-    /// it. The clock is read after the rows.
-    pub fn read(
-        &self,
-        keys: &Range<u64>,
-        rows: &mut Vec<Row>,
-        clock: impl Fn() -> Duration,
-    ) -> Cached {
-        match self.0.scan(keys, rows, || Ok(moment(clock()))) {
-            Ok(Scan::Rows) => Cached::Rows,
-            Ok(Scan::Pending) => Cached::Pending,
-            Ok(Scan::Ended) => Cached::Ended,
-            Ok(Scan::Miss(_)) | Err(_) => Cached::Missing,
-        }
-    }
-}
-
-impl Client {
-    /// A client with a lock file, which is not connected. It keeps all that it reads.
-    ///
-    /// # Errors
-    ///
-    /// `BadNumber`; `LockFile` if another process has the lock file or it can't be used; `Error`
-    /// if memory was refused.
-    pub fn open(begin: Begin<'_>, now: Duration) -> Result<Client, JoinError> {
-        let Begin { number, lock_file, servers, shard, seed } = begin;
-        if ClientNumber::of(number).is_none() {
-            return Err(JoinErrorKind::BadNumber.into());
-        }
-        let taken = LockFile::take(lock_file, number);
-        let (lock_file, _) = taken.map_err(JoinErrorKind::of_lock_file(lock_file))?;
-        let client = Client::of(lock_file, servers, shard, seed, now);
-        let mut client = client.map_err(|refused| JoinErrorKind::Refused(refused.kind))?;
-        client.keep_all();
-        Ok(client)
-    }
-}
-
 impl<N: Incarnations> Client<N> {
-    /// A client of these incarnations, which is not connected and begins with the current one. The
-    /// rest is that of [`Begin`].
+    /// A client of these incarnations, which is not connected and begins with the current one. It
+    /// connects to one of `servers` places at a time, and draws its pauses between connections by
+    /// `seed`.
     ///
     /// # Errors
     ///
@@ -139,14 +76,13 @@ impl<N: Incarnations> Client<N> {
     pub fn of(
         incarnations: N,
         servers: usize,
-        shard: Option<ShardBounds>,
         seed: u64,
         now: Duration,
     ) -> Result<Client<N>, Error> {
         let (number, current) = (incarnations.number(), incarnations.current());
         let handle = ClientHandle::open_after(number, current, incarnations.older())?;
-        let state = State::new(handle, Now::of_host(now));
-        let session = Session::new(unnamed(servers, shard), state, seed);
+        let state = State::new(handle, Now::simulated(now));
+        let session = Session::new(Servers::unnamed(servers), state, seed);
         let (frames, output) = (Frames::to_client(), Vec::new());
         Ok(Client { session, incarnations, frames, output, now })
     }
@@ -154,22 +90,21 @@ impl<N: Incarnations> Client<N> {
     /// The session at this moment, or at the last one if that is later.
     fn at(&mut self, now: Duration) -> &mut Session {
         self.now = self.now.max(now);
-        self.session.at(Now::of_host(self.now))
+        self.session.at(Now::simulated(self.now))
     }
 
-    /// What the cache knows.
-    #[must_use]
-    pub fn cache(&mut self) -> CacheView {
-        CacheView(self.session.state().cache())
+    /// Reads the range from the cache into `rows`, in place of what they are, and returns what the
+    /// cache knows of it.
+    pub fn cached(&mut self, now: Duration, keys: &Range<u64>, rows: &mut Vec<Row>) -> Cached {
+        match self.session.state().cache().scan(keys, rows, || Ok(moment(now))) {
+            Ok(Scan::Rows) => Cached::Rows,
+            Ok(Scan::Pending) => Cached::Pending,
+            Ok(Scan::Ended) => Cached::Ended,
+            Ok(Scan::Miss(_)) | Err(_) => Cached::Missing,
+        }
     }
 
-    /// The client's number.
-    #[must_use]
-    pub fn number(&self) -> u8 {
-        self.incarnations.number()
-    }
-
-    /// The incarnations of that number.
+    /// The incarnations of its number.
     #[must_use]
     pub fn incarnations(&self) -> &N {
         &self.incarnations
@@ -337,15 +272,6 @@ fn moment(now: Duration) -> Moment {
     Moment::of_nanoseconds(u64::try_from(now.as_nanos()).unwrap_or(u64::MAX))
 }
 
-/// This many servers, whose addresses only the host knows.
-fn unnamed(count: usize, shard: Option<ShardBounds>) -> Servers {
-    let servers = Servers::unnamed(count);
-    match shard {
-        Some(shard) => servers.of_shard(shard),
-        None => servers,
-    }
-}
-
 impl<T> fmt::Debug for Call<T> {
     fn fmt(&self, f: &mut fmt::Formatter<'_>) -> fmt::Result {
         f.debug_tuple("Call").field(&self.0.id).finish()
@@ -354,12 +280,8 @@ impl<T> fmt::Debug for Call<T> {
 
 impl<N: Incarnations> fmt::Debug for Client<N> {
     fn fmt(&self, f: &mut fmt::Formatter<'_>) -> fmt::Result {
-        f.debug_struct("Client").field("number", &self.number()).finish_non_exhaustive()
-    }
-}
-
-impl fmt::Debug for CacheView {
-    fn fmt(&self, f: &mut fmt::Formatter<'_>) -> fmt::Result {
-        f.debug_struct("CacheView").finish_non_exhaustive()
+        f.debug_struct("Client")
+            .field("number", &self.incarnations.number())
+            .finish_non_exhaustive()
     }
 }

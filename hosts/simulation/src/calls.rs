@@ -115,7 +115,7 @@ pub fn cached(
     time: Duration,
 ) -> (Cached, Vec<Row>) {
     let mut rows = Vec::new();
-    let cached = client.cache().read(keys, &mut rows, || time);
+    let cached = client.cached(time, keys, &mut rows);
     (cached, rows)
 }
 

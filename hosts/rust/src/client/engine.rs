@@ -1,7 +1,7 @@
 //! How a client begins a connection, and under which incarnation.
 //!
-//! The thread of [`crate::client::link`] and the client without sockets of `sans_io`, which a
-//! simulation runs too, share the order:
+//! The thread of [`crate::client::link`] and the client without sockets of `sans_io`, which the
+//! simulation runs, share the order:
 //!
 //! 1. A client that has dropped all, or whose lease has ended, takes a greater incarnation.
 //! 2. The incarnation is written to the disk.

@@ -44,21 +44,6 @@ impl Now {
 
 #[cfg(feature = "sans-io")]
 impl Now {
-    /// The clocks of a host at this moment by its clock of leases. A client decides nothing by the
-    /// clock that operators set: its lock file reads that by itself.
-    pub fn of_host(moment: std::time::Duration) -> Now {
-        static BEGAN: std::sync::OnceLock<Instant> = std::sync::OnceLock::new();
-        let nanoseconds = u64::try_from(moment.as_nanos()).unwrap_or(u64::MAX);
-        Now {
-            monotonic: *BEGAN.get_or_init(Instant::now) + moment,
-            wall: Some(SystemTime::UNIX_EPOCH),
-            boot: Some(Moment::of_nanoseconds(nanoseconds)),
-        }
-    }
-}
-
-#[cfg(feature = "sans-io")]
-impl Now {
     /// The clocks of a machine that was started at this moment, and has run for this long. Of the
     /// clock of timeouts only differences mean something.
     pub fn simulated(running: std::time::Duration) -> Now {

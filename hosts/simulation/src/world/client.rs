@@ -62,7 +62,7 @@ impl World {
     fn start_client(&mut self, client: usize, lock_file: LockFile, seed: u64) {
         let (servers, incarnation) = (self.sites.len(), lock_file.current());
         let machine = &mut self.machines[client];
-        let started = Client::of(lock_file, servers, None, seed, machine.time(self.now));
+        let started = Client::of(lock_file, servers, seed, machine.time(self.now));
         let started = machine.client.insert(started.expect("there is memory"));
         if self.weather.keeps == Keeps::All {
             started.keep_all();
