@@ -1,18 +1,22 @@
 //! The settings of a server, and where each comes from.
 mod access;
+pub mod credentials;
 mod given;
 pub mod key;
+mod options;
+mod status_port;
 mod store_place;
+mod tls_files;
 pub mod value;
 
 pub use access::AccessSettings;
 pub use given::Given;
 pub use key::Key;
+pub use options::{ServeOptions, TlsOptions};
+pub use status_port::StatusPort;
 pub use store_place::StorePlace;
 pub use value::{Drift, LeaseLength, LogFormat, StatusAddress};
 
-use crate::command_line::ServeOptions;
-use crate::http::StatusPort;
 use krl::{Address, LogWrites, Reach, Room, ShardBounds};
 use std::fmt;
 use std::path::PathBuf;
@@ -108,7 +112,7 @@ impl Settings {
     /// The status ports of the other servers. One of TLS is shown what this server's clients are.
     pub fn others(&self) -> Result<Vec<StatusPort>, BadSetting> {
         let named = |error| BadSetting::new(format!("{}: {error}", key::OTHERS.name));
-        let port = |address| StatusPort::with(address, || self.access.tls()).map_err(named);
+        let port = |address| StatusPort::new(address, || self.access.tls()).map_err(named);
         self.others.iter().map(String::as_str).map(port).collect()
     }
 

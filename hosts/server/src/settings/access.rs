@@ -1,8 +1,6 @@
 //! The settings of whom a server lets in.
-use super::given::Given;
-use super::value;
-use super::{BadSetting, key};
-use crate::tls_files::{self, TlsFiles};
+use super::tls_files::{self, TlsFiles};
+use super::{BadSetting, Given, key, value};
 use krl::{Access, Address, Identity, TlsConfig};
 
 /// Whom a server lets in, and what it shows them.

@@ -1,7 +1,6 @@
 //! What an operator has given: on the command line, by the environment and in a file.
 use super::key::{Key, Kind};
-use super::{BadSetting, Source};
-use crate::command_line::ServeOptions;
+use super::{BadSetting, ServeOptions, Source};
 use clap::ArgMatches;
 use clap::parser::ValueSource;
 use krl_postgres::without_password;

@@ -1,0 +1,30 @@
+//! A client whose process is dead, which is evicted.
+use crate::process::output;
+use crate::settings::{BadSetting, TlsOptions};
+use krl::{Servers, ShardBounds};
+use std::error::Error;
+use std::path::Path;
+
+/// Evicts the client at the server of this address, and reports it.
+pub fn evict(
+    (address, shard): (&str, Option<ShardBounds>),
+    tls: &TlsOptions,
+    number: u8,
+    lock_file: &Path,
+) -> Result<(), Box<dyn Error>> {
+    output::report(&format!(
+        "client {number} must be dead: one that still runs would answer outdated rows from \
+         its cache"
+    ));
+    let mut servers: Servers =
+        address.parse().map_err(|error| BadSetting::new(format!("'{address}': {error}")))?;
+    if let Some(config) = tls.read()? {
+        servers = servers.with_tls(config);
+    }
+    if let Some(shard) = shard {
+        servers = servers.of_shard(shard);
+    }
+    krl::evict(servers, number, lock_file)?;
+    output::report(&format!("client {number} has left"));
+    Ok(())
+}

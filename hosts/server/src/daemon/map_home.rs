@@ -1,0 +1,75 @@
+//! A map of shards that is at home in etcd or PostgreSQL, or in a file.
+use crate::settings::StorePlace;
+use krl::{ShardMap, StoreError};
+use krl_etcd::{Credentials, EtcdMap};
+use krl_postgres::PostgresMap;
+use std::error::Error;
+use std::path::PathBuf;
+use std::time::Duration;
+
+type Done<T = ()> = Result<T, Box<dyn Error>>;
+
+/// Where a map is at home.
+pub enum Home {
+    Etcd(Box<EtcdMap>),
+    Postgres(Box<PostgresMap>),
+}
+
+/// The map that a server watches.
+pub enum WatchedMap {
+    File(PathBuf),
+    AtHome(Home),
+}
+
+impl Home {
+    pub fn open(place: &StorePlace, credentials: &Credentials) -> Done<Home> {
+        Ok(match place {
+            StorePlace::File(path) => {
+                let why = "such a map is at home in etcd or PostgreSQL";
+                return Err(format!("{} is a file: {why}", path.display()).into());
+            }
+            StorePlace::Etcd(address) => Home::Etcd(EtcdMap::open(address, credentials)?.into()),
+            StorePlace::Postgres(address) => {
+                Home::Postgres(PostgresMap::open(address, credentials.user.as_ref())?.into())
+            }
+        })
+    }
+
+    pub fn read(&mut self) -> Result<Option<String>, StoreError> {
+        match self {
+            Home::Etcd(map) => map.read(),
+            Home::Postgres(map) => map.read(),
+        }
+    }
+
+    pub fn replace(&mut self, before: Option<&str>, next: &str) -> Result<bool, StoreError> {
+        match self {
+            Home::Etcd(map) => map.replace(before, next),
+            Home::Postgres(map) => map.replace(before, next),
+        }
+    }
+
+    pub fn wait(&mut self, most: Duration) {
+        match self {
+            Home::Etcd(map) => map.wait(most),
+            Home::Postgres(map) => map.wait(most),
+        }
+    }
+}
+
+impl WatchedMap {
+    pub fn open(place: &StorePlace, credentials: &Credentials) -> Done<WatchedMap> {
+        Ok(match place {
+            StorePlace::File(path) => WatchedMap::File(path.clone()),
+            home => WatchedMap::AtHome(Home::open(home, credentials)?),
+        })
+    }
+
+    /// The map that stands there now, if one does that can be read.
+    pub fn read(&mut self) -> Option<ShardMap> {
+        match self {
+            WatchedMap::File(path) => ShardMap::from_file(path).ok(),
+            WatchedMap::AtHome(home) => ShardMap::from_toml(&home.read().ok()??).ok(),
+        }
+    }
+}
