@@ -18,6 +18,7 @@ pub use store_place::StorePlace;
 pub use value::{Drift, LeaseLength, LogFormat, StatusAddress};
 
 use krl::{Address, LogWrites, Reach, Room, ShardBounds};
+use krl_etcd::Credentials;
 use std::fmt;
 use std::path::PathBuf;
 use std::time::Duration;
@@ -45,9 +46,8 @@ pub struct Settings {
     pub store_writes: LogWrites,
     /// Whether a store that holds nothing may be served.
     pub may_make_store: bool,
-    pub store_authority: Option<PathBuf>,
-    pub store_certificate: Option<PathBuf>,
-    pub store_key: Option<PathBuf>,
+    /// What is shown to a cluster.
+    pub credentials: Credentials,
     pub room: Option<Room>,
     pub reach: Reach,
     pub shard: Option<ShardBounds>,
@@ -78,9 +78,7 @@ impl Settings {
             })?,
             store_writes: given.value(&key::STORE_WRITES, value::parse_log_writes)?,
             may_make_store: given.value(&key::CREATE, value::parse_yes_no)?,
-            store_authority: given.optional(&key::STORE_AUTHORITY, value::parsed)?,
-            store_certificate: given.optional(&key::STORE_CERTIFICATE, value::parsed)?,
-            store_key: given.optional(&key::STORE_KEY, value::parsed)?,
+            credentials: credentials::of(|key| given.path(key)),
             room: given.optional(&key::ROOM, value::parsed)?,
             reach: given.value(&key::REACH, value::parsed)?,
             shard: given.optional(&key::SHARD, value::parsed)?,

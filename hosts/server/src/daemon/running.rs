@@ -20,44 +20,6 @@ const LOOK: Duration = Duration::from_millis(20);
 /// The exit status of a process that a second signal ends.
 const ENDED_AT_ONCE: i32 = 1;
 
-/// Starts a server that lets these in, with the leases, the room, the reach and the shard of the
-/// settings.
-pub fn start(
-    settings: &Settings,
-    listener: Listener,
-    (store, access): (impl Store + 'static, &Access),
-) -> Result<Server, ServeError> {
-    let store = AskedFor::new(store, settings);
-    let mut builder = Server::builder(listener, store).access(access.clone());
-    builder = builder.reach(settings.reach);
-    if let Some(room) = settings.room {
-        builder = builder.room(room);
-    }
-    if let Some(shard) = settings.shard {
-        builder = builder.shard(shard);
-    }
-    match settings.lease.with(settings.drift) {
-        Some(leases) => builder.leases(leases).start(),
-        None => builder.start(),
-    }
-}
-
-/// Reports to the log, the status port and the service manager that the server serves.
-pub fn ready(settings: &Settings, server: &Server, role: &Role) {
-    role.serves(server.monitor());
-    tracing::info!(
-        version = env!("CARGO_PKG_VERSION"),
-        epoch = server.status().epoch,
-        address = %server.address(),
-        store = %settings.store,
-        room = %server.room(),
-        reach = %server.reach(),
-        shard = server.status().shard.map(tracing::field::display),
-        "ready"
-    );
-    notify(&[NotifyState::Ready, NotifyState::Status(&format!("serves at {}", server.address()))]);
-}
-
 /// Reports to the log and the service manager that another server serves, which clients reach at
 /// this address. One that stands by has started: otherwise its manager would wait, and end it in
 /// the end.
@@ -65,6 +27,15 @@ pub fn stands_by(leader: &str) {
     tracing::info!(%leader, "stands by");
     let status = format!("stands by: the server at {leader} serves");
     notify(&[NotifyState::Ready, NotifyState::Status(&status)]);
+}
+
+/// A process that serves, or stands by.
+pub struct Daemon<'s> {
+    pub settings: &'s Settings,
+    /// Whom a server lets in.
+    pub access: Access,
+    pub signal: Signal,
+    pub role: Role,
 }
 
 /// A server had started, and has failed. The log has reported why.
@@ -86,25 +57,73 @@ pub enum Ended {
     LeaseRanOut,
 }
 
-/// Waits until a signal comes, or until `runs` returns false after a wait, and then stops the
-/// server; or until it has failed by itself.
-pub fn until_it_ends(
-    server: Server,
-    signal: &Signal,
-    runs: impl Fn(Duration) -> bool,
-) -> Result<Ended, HasFailed> {
-    let mut ended = Ended::BySignal;
-    while server.is_running() && signal.name().is_none() {
-        if !runs(LOOK) {
-            ended = Ended::LeaseRanOut;
-            break;
+impl Daemon<'_> {
+    /// Serves what a store has, until a signal comes, or until `runs` returns false after a wait; or
+    /// until the server has failed by itself.
+    pub fn serve(
+        &self,
+        listener: Listener,
+        store: impl Store + 'static,
+        runs: impl Fn(Duration) -> bool,
+    ) -> Result<Result<Ended, HasFailed>, ServeError> {
+        let server = self.start(listener, store)?;
+        self.ready(&server);
+        Ok(self.until_it_ends(server, runs))
+    }
+
+    /// Starts a server with the leases, the room, the reach and the shard of the settings.
+    fn start(&self, listener: Listener, store: impl Store + 'static) -> Result<Server, ServeError> {
+        let settings = self.settings;
+        let store = AskedFor::new(store, settings);
+        let mut builder = Server::builder(listener, store).access(self.access.clone());
+        builder = builder.reach(settings.reach);
+        if let Some(room) = settings.room {
+            builder = builder.room(room);
+        }
+        if let Some(shard) = settings.shard {
+            builder = builder.shard(shard);
+        }
+        match settings.lease.with(settings.drift) {
+            Some(leases) => builder.leases(leases).start(),
+            None => builder.start(),
         }
     }
-    if signal.name().is_some() {
-        notify(&[NotifyState::Stopping]);
+
+    /// Reports to the log, the status port and the service manager that the server serves.
+    fn ready(&self, server: &Server) {
+        self.role.serves(server.monitor());
+        tracing::info!(
+            version = env!("CARGO_PKG_VERSION"),
+            epoch = server.status().epoch,
+            address = %server.address(),
+            store = %self.settings.store,
+            room = %server.room(),
+            reach = %server.reach(),
+            shard = server.status().shard.map(tracing::field::display),
+            "ready"
+        );
+        let status = format!("serves at {}", server.address());
+        notify(&[NotifyState::Ready, NotifyState::Status(&status)]);
     }
-    server.stop().map_err(HasFailed)?;
-    Ok(ended)
+
+    fn until_it_ends(
+        &self,
+        server: Server,
+        runs: impl Fn(Duration) -> bool,
+    ) -> Result<Ended, HasFailed> {
+        let mut ended = Ended::BySignal;
+        while server.is_running() && !self.signal.has_come() {
+            if !runs(LOOK) {
+                ended = Ended::LeaseRanOut;
+                break;
+            }
+        }
+        if self.signal.has_come() {
+            notify(&[NotifyState::Stopping]);
+        }
+        server.stop().map_err(HasFailed)?;
+        Ok(ended)
+    }
 }
 
 /// Notifies the service manager, if there is one.
@@ -130,6 +149,10 @@ impl Signal {
             signal_hook::flag::register_usize(signal, Arc::clone(&number), value)?;
         }
         Ok(Signal { number })
+    }
+
+    pub fn has_come(&self) -> bool {
+        self.name().is_some()
     }
 
     pub fn name(&self) -> Option<&'static str> {

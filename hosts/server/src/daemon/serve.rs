@@ -2,17 +2,17 @@
 use super::map_home::WatchedMap;
 use super::new_store;
 use super::owner::Owner;
-use super::running::{self, HasFailed, Signal};
+use super::running::{Daemon, HasFailed, Signal};
 use super::{long_waits, map_watch, open_files, stand_by, watchdog};
 use crate::process::log::{self, Unanswered};
 use crate::process::output::{self, cause};
 use crate::process::reload;
 use crate::process::role::Role;
-use crate::settings::{BadSetting, Settings, StatusAddress, StorePlace, credentials};
+use crate::settings::{BadSetting, Settings, StatusAddress, StorePlace};
 use crate::status::others::Others;
 use crate::status::port;
 use crate::status::shown::Table;
-use krl::{Access, Listener, ServeError, SqliteStore, Store, StoreError};
+use krl::{Listener, ServeError, SqliteStore, Store, StoreError};
 use krl_postgres::{PostgresAddress, PostgresStore};
 use std::error::Error;
 use std::path::Path;
@@ -66,8 +66,7 @@ fn run(settings: &Settings) -> Result<(), Box<dyn Error>> {
     watchdog::start(role.clone())?;
     long_waits::start(role.clone())?;
     if let Some(map) = &settings.map {
-        let map = WatchedMap::open(map, &settings.credentials())?;
-        map_watch::start(role.clone(), map)?;
+        map_watch::start(role.clone(), WatchedMap::open(map, &settings.credentials)?)?;
     }
     if let StatusAddress::At(address) = &settings.status {
         let table = Table { others: Others::new(settings.others()?), shard: settings.shard };
@@ -75,27 +74,21 @@ fn run(settings: &Settings) -> Result<(), Box<dyn Error>> {
             .map_err(|error| format!("can't serve the status at {address}: {error}"))?;
         tracing::info!(address = %at, "status port");
     }
+    let daemon = Daemon { settings, access, signal, role };
     match &settings.store {
-        StorePlace::File(path) => serve_file(settings, path, &access, &signal, &role)?,
-        StorePlace::Etcd(address) => stand_by::run(settings, address, &access, &signal, &role)?,
-        StorePlace::Postgres(address) => {
-            serve_database(settings, address, &access, &signal, &role)?;
-        }
+        StorePlace::File(path) => serve_file(&daemon, path)?,
+        StorePlace::Etcd(address) => stand_by::run(&daemon, address)?,
+        StorePlace::Postgres(address) => serve_database(&daemon, address)?,
     }
-    if let Some(signal) = signal.name() {
+    if let Some(signal) = daemon.signal.name() {
         tracing::info!(signal, "stopping");
     }
     Ok(())
 }
 
 /// Serves what a file has, which no other process serves meanwhile.
-fn serve_file(
-    settings: &Settings,
-    path: &Path,
-    access: &Access,
-    signal: &Signal,
-    role: &Role,
-) -> Result<(), Box<dyn Error>> {
+fn serve_file(daemon: &Daemon<'_>, path: &Path) -> Result<(), Box<dyn Error>> {
+    let settings = daemon.settings;
     let fails = |error: StoreError| {
         format!("the store {} can't be opened: {}", path.display(), cause(&error))
     };
@@ -104,46 +97,29 @@ fn serve_file(
     SqliteStore::judge_first_bytes(path).map_err(fails)?;
     let owner = Owner::take(path, &settings.listen)?;
     let store = SqliteStore::open_with(owner.file(), settings.store_writes).map_err(fails)?;
-    serve_store(settings, store, access, signal, role)
+    serve_store(daemon, store)
 }
 
 /// Serves what a database has, once it answers.
-fn serve_database(
-    settings: &Settings,
-    address: &PostgresAddress,
-    access: &Access,
-    signal: &Signal,
-    role: &Role,
-) -> Result<(), Box<dyn Error>> {
-    let mut store = PostgresStore::open(address, credentials::user().as_ref())?;
+fn serve_database(daemon: &Daemon<'_>, address: &PostgresAddress) -> Result<(), Box<dyn Error>> {
+    let mut store = PostgresStore::open(address, daemon.settings.credentials.user.as_ref())?;
     let mut unanswered = Unanswered::default();
     let answers = store.reach(|why| {
         unanswered.log(why);
-        signal.name().is_none()
+        !daemon.signal.has_come()
     })?;
-    if answers {
-        serve_store(settings, store, access, signal, role)?;
-    }
-    Ok(())
+    if answers { serve_store(daemon, store) } else { Ok(()) }
 }
 
 /// Serves what a store has, until a signal comes. Nothing stands by: a server that loses the store
 /// ends.
-fn serve_store(
-    settings: &Settings,
-    store: impl Store + 'static,
-    access: &Access,
-    signal: &Signal,
-    role: &Role,
-) -> Result<(), Box<dyn Error>> {
-    let listen = &settings.listen;
+fn serve_store(daemon: &Daemon<'_>, store: impl Store + 'static) -> Result<(), Box<dyn Error>> {
+    let listen = &daemon.settings.listen;
     let listener = Listener::bind(listen)
         .map_err(|error| format!("can't listen for clients at {listen}: {error}"))?;
-    let server = running::start(settings, listener, (store, access))?;
-    running::ready(settings, &server, role);
-    running::until_it_ends(server, signal, |wait| {
+    daemon.serve(listener, store, |wait| {
         thread::sleep(wait);
         true
-    })?;
+    })??;
     Ok(())
 }

@@ -1,22 +1,14 @@
 //! Servers over a cluster: one serves, and the others stand by.
-use super::running::{self, Ended, HasFailed, Signal};
+use super::running::{self, Daemon, Ended, HasFailed};
 use crate::process::log::Unanswered;
-use crate::process::role::Role;
-use crate::settings::Settings;
-use krl::{Access, Listener, ServeError, Store, StoreError};
+use krl::{Listener, ServeError, Store, StoreError};
 use krl_etcd::{Election, EtcdAddress, EtcdStore, Standing, Term};
 use std::error::Error;
-use std::time::Duration;
 
 /// Stands by, serves, and stands by again, until a signal comes.
-pub fn run(
-    settings: &Settings,
-    address: &EtcdAddress,
-    access: &Access,
-    signal: &Signal,
-    role: &Role,
-) -> Result<(), Box<dyn Error>> {
-    let credentials = settings.credentials();
+pub fn run(daemon: &Daemon<'_>, address: &EtcdAddress) -> Result<(), Box<dyn Error>> {
+    let settings = daemon.settings;
+    let credentials = &settings.credentials;
     let advertised = settings.advertise.as_ref().unwrap_or(&settings.listen);
     let lease = settings.election_lease;
     let election =
@@ -24,12 +16,12 @@ pub fn run(
     let mut unanswered = Unanswered::default();
     loop {
         let mut goes_on =
-            |standing: Standing<'_>| report_standing(standing, role, signal, &mut unanswered);
+            |standing: Standing<'_>| report_standing(daemon, standing, &mut unanswered);
         let Some(term) = election.campaign(&mut goes_on)? else { return Ok(()) };
-        let mut store = EtcdStore::open(address, &credentials)?.with_commit_timeout(lease);
+        let mut store = EtcdStore::open(address, credentials)?.with_commit_timeout(lease);
         store.concerns().iter().for_each(|concern| tracing::warn!("{concern}"));
-        let ended = serve_term(settings, store, (access, &term), signal, role);
-        role.ends();
+        let ended = serve_term(daemon, store, &term);
+        daemon.role.ends();
         match ended {
             Ok(Ok(Ended::BySignal)) => return Ok(()),
             Ok(Ok(Ended::LeaseRanOut)) => {
@@ -43,33 +35,27 @@ pub fn run(
 
 /// Reports who serves, once, or why nobody knows, now and then; and returns whether to continue.
 fn report_standing(
+    daemon: &Daemon<'_>,
     standing: Standing<'_>,
-    role: &Role,
-    signal: &Signal,
     unanswered: &mut Unanswered,
 ) -> bool {
     match standing {
-        Standing::StandsBy(leader) if role.stands_by(leader) => running::stands_by(leader),
+        Standing::StandsBy(leader) if daemon.role.stands_by(leader) => running::stands_by(leader),
         Standing::Unanswered(why) => unanswered.log(why),
         _ => {}
     }
-    signal.name().is_none()
+    !daemon.signal.has_come()
 }
 
 /// Serves while the lease runs, if the server starts.
 fn serve_term(
-    settings: &Settings,
+    daemon: &Daemon<'_>,
     store: impl Store + 'static,
-    (access, term): (&Access, &Term),
-    signal: &Signal,
-    role: &Role,
+    term: &Term,
 ) -> Result<Result<Ended, HasFailed>, ServeError> {
     // Clients are refused at this address at all other times, and try the next one.
-    let listener = Listener::bind(&settings.listen)?;
-    let server = running::start(settings, listener, (store, access))?;
-    running::ready(settings, &server, role);
-    let runs = |wait: Duration| term.runs_after(wait);
-    Ok(running::until_it_ends(server, signal, runs))
+    let listener = Listener::bind(&daemon.settings.listen)?;
+    daemon.serve(listener, store, |wait| term.runs_after(wait))
 }
 
 /// Whether a server that ended so stands by again: it has lost the store, and not failed.

@@ -8,7 +8,7 @@ use serde::Deserialize;
 use serde::de::{Deserializer, MapAccess, Visitor};
 use std::collections::BTreeMap;
 use std::fmt;
-use std::path::Path;
+use std::path::{Path, PathBuf};
 
 /// The text of each setting that is given, by its name, and where it comes from.
 #[derive(Clone, Debug)]
@@ -64,6 +64,11 @@ impl Given {
     ) -> Result<Option<T>, BadSetting> {
         let (text, _) = self.text(key);
         if text.is_empty() { Ok(None) } else { self.value(key, parse).map(Some) }
+    }
+
+    /// The path of a file that may be left out.
+    pub fn path(&self, key: &Key) -> Option<PathBuf> {
+        Some(self.text(key).0).filter(|text| !text.is_empty()).map(PathBuf::from)
     }
 
     /// The value of a setting whose parser states why it refuses a text.

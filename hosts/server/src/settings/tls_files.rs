@@ -15,9 +15,9 @@ pub struct TlsFiles {
 impl TlsFiles {
     pub fn of(given: &Given) -> Result<TlsFiles, BadSetting> {
         Ok(TlsFiles {
-            authority: given.optional(&key::TLS_AUTHORITY, value::parsed)?,
-            certificate: given.optional(&key::TLS_CERTIFICATE, value::parsed)?,
-            key: given.optional(&key::TLS_KEY, value::parsed)?,
+            authority: given.path(&key::TLS_AUTHORITY),
+            certificate: given.path(&key::TLS_CERTIFICATE),
+            key: given.path(&key::TLS_KEY),
             table: given.optional(&key::TABLE, value::parsed)?,
         })
     }

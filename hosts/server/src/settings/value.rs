@@ -84,20 +84,17 @@ pub fn parse_users(text: &str) -> Option<Vec<(u32, Identity)>> {
     text.split_whitespace().map(user).collect()
 }
 
+/// The parser of a value that is one of these words.
+fn one_of<T: Copy, const COUNT: usize>(words: [(&str, T); COUNT], text: &str) -> Option<T> {
+    words.into_iter().find(|(word, _)| *word == text).map(|(_, value)| value)
+}
+
 pub fn parse_yes_no(text: &str) -> Option<bool> {
-    match text {
-        "yes" => Some(true),
-        "no" => Some(false),
-        _ => None,
-    }
+    one_of([("yes", true), ("no", false)], text)
 }
 
 pub fn parse_log_writes(text: &str) -> Option<LogWrites> {
-    match text {
-        "joined" => Some(LogWrites::Joined),
-        "single" => Some(LogWrites::Single),
-        _ => None,
-    }
+    one_of([("joined", LogWrites::Joined), ("single", LogWrites::Single)], text)
 }
 
 pub fn parse_lease(text: &str) -> Option<LeaseLength> {
@@ -116,22 +113,13 @@ pub fn parse_drift(text: &str) -> Option<Drift> {
 }
 
 pub fn parse_level(text: &str) -> Option<LevelFilter> {
-    match text {
-        "error" => Some(LevelFilter::ERROR),
-        "warn" => Some(LevelFilter::WARN),
-        "info" => Some(LevelFilter::INFO),
-        "debug" => Some(LevelFilter::DEBUG),
-        "trace" => Some(LevelFilter::TRACE),
-        _ => None,
-    }
+    // The parser of levels takes other words too.
+    let is_level = ["error", "warn", "info", "debug", "trace"].contains(&text);
+    is_level.then(|| text.parse().ok())?
 }
 
 pub fn parse_format(text: &str) -> Option<LogFormat> {
-    match text {
-        "text" => Some(LogFormat::Text),
-        "json" => Some(LogFormat::Json),
-        _ => None,
-    }
+    one_of([("text", LogFormat::Text), ("json", LogFormat::Json)], text)
 }
 
 #[cfg(test)]
