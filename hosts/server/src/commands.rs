@@ -17,17 +17,17 @@ mod restore;
 mod stores;
 
 use crate::daemon::serve;
+use crate::process::Done;
 use crate::process::output::{self, NotPrinted};
 use crate::settings::Settings;
 use crate::status::paths;
 use clap::{CommandFactory, Parser};
 use command_line::{Command, CommandLine};
 use krl_cli::print_completion;
-use std::error::Error;
 use std::process::ExitCode;
 
 /// Runs the command of the command line.
-pub fn run() -> Result<ExitCode, Box<dyn Error>> {
+pub fn run() -> Done<ExitCode> {
     match CommandLine::parse().command {
         Command::Serve(options) => return Ok(serve::serve(&Settings::of(&options)?)),
         Command::Config(options) => {

@@ -4,3 +4,8 @@ pub mod output;
 pub mod reload;
 pub mod replaced_file;
 pub mod role;
+
+use std::error::Error;
+
+/// What a command or a server returns that may fail: why is reported to the operator.
+pub type Done<T = ()> = Result<T, Box<dyn Error>>;

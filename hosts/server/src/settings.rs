@@ -22,7 +22,6 @@ use krl_etcd::Credentials;
 use std::fmt;
 use std::path::PathBuf;
 use std::time::Duration;
-use store_place::BadStorePlace;
 use tracing::level_filters::LevelFilter;
 
 /// Where a text comes from.
@@ -74,7 +73,7 @@ impl Settings {
             access: AccessSettings::of(&given)?,
             listen: given.value(&key::LISTEN, value::parsed)?,
             store: given.judged(&key::STORE, |text| {
-                text.parse().map_err(|bad: BadStorePlace| format!(": {bad}"))
+                text.parse().map_err(|why: String| format!(": {why}"))
             })?,
             store_writes: given.value(&key::STORE_WRITES, value::parse_log_writes)?,
             may_make_store: given.value(&key::CREATE, value::parse_yes_no)?,

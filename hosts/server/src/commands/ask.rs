@@ -1,5 +1,6 @@
 //! What commands ask a status port.
 use super::options::{LocksOptions, PageOptions};
+use crate::process::Done;
 use crate::process::output;
 use crate::settings::{BadSetting, StatusPort};
 use crate::status::backup::{self, Order};
@@ -7,22 +8,19 @@ use crate::status::http;
 use crate::status::locks::{Question, TOP};
 use crate::status::paths::{ALIVE, BACKUP, READY, TEXT};
 use hyper::StatusCode;
-use std::error::Error;
 use std::path::Path;
 use std::process::ExitCode;
 use std::time::Duration;
 
-type Done<T = ()> = Result<T, Box<dyn Error>>;
-
 /// How long a command waits for an answer.
-pub const WAIT: Duration = Duration::from_secs(5);
+pub const COMMAND_WAIT: Duration = Duration::from_secs(5);
 
 /// How long it waits for the answer who holds what.
 const LOCKS_WAIT: Duration = Duration::from_secs(30);
 
 /// Prints a page.
 pub fn page(options: &PageOptions, path: &str) -> Done {
-    let page = http::page(&options.port.port()?, path, options.format.kind(), WAIT)?;
+    let page = http::page(&options.port.port()?, path, options.format.kind(), COMMAND_WAIT)?;
     Ok(output::print(&page)?)
 }
 
@@ -37,7 +35,7 @@ pub fn locks(options: &LocksOptions) -> Done {
 
 /// Prints the server's own report on whether it is alive, or ready. The exit status is 1 if it is not.
 pub fn health(port: &StatusPort, ready: bool) -> Done<ExitCode> {
-    let reply = http::get(port, if ready { READY } else { ALIVE }, TEXT, WAIT)?;
+    let reply = http::get(port, if ready { READY } else { ALIVE }, TEXT, COMMAND_WAIT)?;
     output::print(&reply.text)?;
     let is_so = reply.status == StatusCode::OK;
     Ok(if is_so { ExitCode::SUCCESS } else { ExitCode::FAILURE })

@@ -1,9 +1,9 @@
 //! What a store holds, and whether a server can start on it; and until when certificates last.
 use super::{certificates, stores};
-use crate::process::output;
+use crate::process::Done;
+use crate::process::output::{self, numbers};
 use krl::operate::Checksum;
 use krl::{Certificate, Record};
-use std::error::Error;
 use std::fs::{self, File};
 use std::io::{self, Read};
 use std::path::Path;
@@ -15,7 +15,7 @@ const FIRST_BYTES: u64 = 4096;
 
 /// Prints what the file holds: a store, or certificates. The exit status is 1 if no server can
 /// start on the store, or a certificate is not valid now and for this many days.
-pub fn check(path: &Path, days: u32) -> Result<ExitCode, Box<dyn Error>> {
+pub fn check(path: &Path, days: u32) -> Done<ExitCode> {
     match first_bytes(path) {
         Ok(bytes) if certificates::is_pem(&bytes) => check_certificates(path, days),
         _ => check_store(path),
@@ -29,7 +29,7 @@ fn first_bytes(path: &Path) -> io::Result<Vec<u8>> {
     Ok(bytes)
 }
 
-fn check_certificates(path: &Path, days: u32) -> Result<ExitCode, Box<dyn Error>> {
+fn check_certificates(path: &Path, days: u32) -> Done<ExitCode> {
     let unreadable = || format!("{} has no certificate that can be read", path.display());
     let read = Certificate::all_of_pem(&fs::read(path)?).ok_or_else(unreadable)?;
     let (text, are_valid) = certificates::judge(&read, SystemTime::now(), days);
@@ -37,7 +37,7 @@ fn check_certificates(path: &Path, days: u32) -> Result<ExitCode, Box<dyn Error>
     Ok(if are_valid { ExitCode::SUCCESS } else { ExitCode::FAILURE })
 }
 
-fn check_store(path: &Path) -> Result<ExitCode, Box<dyn Error>> {
+fn check_store(path: &Path) -> Done<ExitCode> {
     stores::refuse_served(path)?;
     let file = stores::read(path)?;
     let snapshot = &file.snapshot;
@@ -76,10 +76,7 @@ fn check_store(path: &Path) -> Result<ExitCode, Box<dyn Error>> {
 }
 
 fn list(records: &[&Record]) -> String {
-    if records.is_empty() {
-        return "none".to_string();
-    }
-    let mut numbers: Vec<_> = records.iter().map(|record| record.client).collect();
-    numbers.sort_unstable();
-    numbers.iter().map(u8::to_string).collect::<Vec<_>>().join(", ")
+    let mut clients: Vec<_> = records.iter().map(|record| record.client).collect();
+    clients.sort_unstable();
+    if clients.is_empty() { "none".to_string() } else { numbers(&clients) }
 }

@@ -1,8 +1,8 @@
 //! A client whose process is dead, which is evicted.
+use crate::process::Done;
 use crate::process::output;
 use crate::settings::{BadSetting, TlsOptions};
 use krl::{Servers, ShardBounds};
-use std::error::Error;
 use std::path::Path;
 
 /// Evicts the client at the server of this address, and reports it.
@@ -11,7 +11,7 @@ pub fn evict(
     tls: &TlsOptions,
     number: u8,
     lock_file: &Path,
-) -> Result<(), Box<dyn Error>> {
+) -> Done {
     output::report(&format!(
         "client {number} must be dead: one that still runs would answer outdated rows from \
          its cache"

@@ -1,13 +1,13 @@
 //! The rows of a store as a file.
 use super::stores;
+use crate::process::Done;
 use crate::process::output;
 use krl::Row;
 use krl_cli::{FileFormat, RowWriter, ValueForm};
-use std::error::Error;
 use std::path::Path;
 
 /// Prints the rows of a store that no server serves.
-pub fn export(store: &Path, is_json: bool) -> Result<(), Box<dyn Error>> {
+pub fn export(store: &Path, is_json: bool) -> Done {
     stores::refuse_served(store)
         .map_err(|why| format!("{why}: `krl-client export` asks a server"))?;
     let file = stores::read_undamaged(store)?;

@@ -1,13 +1,11 @@
 //! Rows of a file into a store that no server serves.
 use super::stores;
+use crate::process::Done;
 use crate::process::output::{self, cause};
 use crate::settings::{BadSetting, StorePlace};
 use krl::{Room, Snapshot, SqliteStore, Store};
 use krl_cli::{Existing, FileFormat, Line, ValueForm, read_file};
-use std::error::Error;
 use std::path::Path;
-
-type Done = Result<(), Box<dyn Error>>;
 
 /// A store with rows that an import adds to it.
 #[derive(Debug, Default, PartialEq, Eq)]
@@ -34,7 +32,7 @@ pub fn import(file: &Path, is_json: bool, place: &StorePlace, existing: Existing
     Ok(output::print_done(&format!("{place}: imported {written} rows{kept}; it has {rows}\n"))?)
 }
 
-fn into_store(path: &Path, lines: Vec<Line>, existing: Existing) -> Result<Added, Box<dyn Error>> {
+fn into_store(path: &Path, lines: Vec<Line>, existing: Existing) -> Done<Added> {
     let owner = stores::own(path)?;
     let added = add(stores::read_left(owner.file())?.snapshot, lines, existing)?;
     stores::judge(&path.display(), &added.store)?;
@@ -45,7 +43,7 @@ fn into_store(path: &Path, lines: Vec<Line>, existing: Existing) -> Result<Added
     Ok(added)
 }
 
-fn into_new_store(place: &StorePlace, lines: Vec<Line>) -> Result<Added, Box<dyn Error>> {
+fn into_new_store(place: &StorePlace, lines: Vec<Line>) -> Done<Added> {
     let added = add(Snapshot::default(), lines, Existing::Refuse)?;
     stores::judge(place, &added.store)?;
     stores::create(place, &added.store)?;

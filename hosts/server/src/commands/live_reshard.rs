@@ -18,6 +18,7 @@ mod words;
 
 use super::next_map;
 use super::published_map::{MapFile, PublishedMap, run};
+use crate::process::Done;
 use crate::process::output;
 use crate::settings::{BadSetting, StatusPort};
 use crate::status::paths::CLIENTS;
@@ -31,23 +32,17 @@ use stores::{Stores, json, served_by};
 pub use words::LiveChange;
 use words::LiveOptions;
 
-type Done<T = ()> = Result<T, Box<dyn Error>>;
-
 /// How often the servers are asked who is left.
-const LOOK: Duration = Duration::from_millis(20);
+const POLL_PERIOD: Duration = Duration::from_millis(20);
 
 /// How often it is reported who is left.
-const REPORT: Duration = Duration::from_secs(5);
+const REPORT_PERIOD: Duration = Duration::from_secs(5);
 
 /// The pause after which stores are tried again that were in use: clients leave their servers meanwhile.
-const AGAIN: Duration = Duration::from_secs(1);
+const IN_USE_PAUSE: Duration = Duration::from_secs(1);
 
 /// How long a server may take to start or to end.
 const START_OR_END: Duration = Duration::from_secs(60);
-
-/// Clients have not left in time: which, by the last status.
-#[derive(Debug)]
-struct Stay(String);
 
 /// Changes the shards, or takes back what was begun.
 pub fn reshard(change: &LiveChange) -> Done {
@@ -94,14 +89,14 @@ fn given_up(
     why: &(dyn Error + 'static),
 ) -> String {
     // A database may commit what was sent before, by this command or an earlier one.
-    let is_known = stores.are_files() || (map.is_new() && !why.is::<Unknown>());
+    let is_known = stores.are_files() || (map.is_new && !why.is::<Unknown>());
     let undo = "or give it up by the same command with --undo";
     let left = match stores.have_begun_to_change() {
         Ok(false) if is_known => match take_back(start, map) {
             Ok(version) => format!(
                 "Nothing has changed, and the old servers serve: the map is what it was, by version \
                  {version}, with {}. Repeat the command when that is mended",
-                map.shown_before()
+                map.change.shown_before()
             ),
             Err(not) => format!(
                 "No store has changed, but not all could be taken back: {not}. Repeat the command when \
@@ -113,7 +108,7 @@ fn given_up(
             format!(
                 "The stores have begun to change, so keys of {} are not served until the command is \
                  repeated and ends well",
-                map.shown_before()
+                map.change.shown_before()
             )
         }
         _ => format!("Whether a store has changed is not known: repeat the command, {undo}"),
@@ -153,29 +148,24 @@ fn undo(change: &LiveChange, file: MapFile) -> Done<NonZeroU64> {
 impl LiveChange {
     /// The map after this one.
     fn next_of(&self, before: &ShardMap) -> Done<ShardMap> {
-        let next = match self {
-            LiveChange::Split { at, servers, .. } => {
-                next_map::refuse_server_of_map(before, servers)?;
-                before.split(*at, servers.clone())
-            }
-            LiveChange::Merge { at, .. } => before.merge(*at),
+        if let LiveChange::Split { servers, .. } | LiveChange::Move { servers, .. } = self {
+            next_map::refuse_server_of_map(before, servers)?;
+        }
+        let (at, next) = match self {
+            LiveChange::Split { at, servers, .. } => (*at, before.split(*at, servers.clone())),
+            LiveChange::Merge { at, .. } => (*at, before.merge(*at)),
             LiveChange::Move { first, servers, .. } => {
-                next_map::refuse_server_of_map(before, servers)?;
-                before.with_servers(*first, servers.clone())
+                (*first, before.with_servers(*first, servers.clone()))
             }
         };
-        let (LiveChange::Split { at, .. }
-        | LiveChange::Merge { at, .. }
-        | LiveChange::Move { first: at, .. }) = self;
-        next.map_err(|error| next_map::no_map(&self.live().map, *at, &error))
+        next.map_err(|error| next_map::no_map(&self.live().map, at, &error))
     }
 
     /// The stores, and what they are before and after the change.
     fn stores(&self, map: &PublishedMap) -> Done<Stores<'_>> {
-        let (map_before, map_next) = (map.before(), map.next());
-        let before = |point: u64| next_map::bounds(map_before, map_before.shard_of(point).ok());
-        let next = |point: u64| next_map::bounds(map_next, map_next.shard_of(point).ok());
-        let version = map_next.version().ok_or("the map has no version")?;
+        let before = |key: u64| next_map::bounds(&map.change.before, key);
+        let next = |key: u64| next_map::bounds(&map.change.next, key);
+        let version = map.change.next.version().ok_or("the map has no version")?;
         let sealed = |place, before: ShardBounds| {
             let after = KeptShard::sealed(before.with_version(version));
             OldStore { place, before, after }
@@ -234,8 +224,8 @@ fn change_stores(change: &LiveChange, stores: &Stores<'_>) -> Done {
     let end = Instant::now() + Duration::from_secs(*wait);
     loop {
         let who = match wait_until_left(stores, end) {
-            Err(Stay(who)) => who,
-            Ok(()) => match change_stopped(change, stores) {
+            Some(who) => who,
+            None => match change_stopped(change, stores) {
                 // One that does not follow the map has joined meanwhile.
                 Err(error) if error.is::<InUse>() => start_again(start, &error.to_string()),
                 ended => return ended,
@@ -244,7 +234,7 @@ fn change_stores(change: &LiveChange, stores: &Stores<'_>) -> Done {
         if Instant::now() >= end {
             return Err(format!("{who}: not left within {wait} seconds").into());
         }
-        thread::sleep(AGAIN);
+        thread::sleep(IN_USE_PAUSE);
     }
 }
 
@@ -264,20 +254,19 @@ fn start_again(start: &str, who: &str) -> String {
 }
 
 /// Waits until no client is at the servers. One that does not answer has none, or is down: its store
-/// shows it.
-fn wait_until_left(stores: &Stores<'_>, end: Instant) -> Result<(), Stay> {
-    let mut next_report = Instant::now() + REPORT;
+/// shows it. Returns the clients that have not left in time, if there are any.
+fn wait_until_left(stores: &Stores<'_>, end: Instant) -> Option<String> {
+    let mut next_report = Instant::now() + REPORT_PERIOD;
     loop {
-        let who = stores.ports.iter().find_map(clients_of);
-        let Some(who) = who else { return Ok(()) };
+        let who = stores.ports.iter().find_map(clients_of)?;
         if Instant::now() >= end {
-            return Err(Stay(who));
+            return Some(who);
         }
         if Instant::now() >= next_report {
             output::report(&format!("waits for {who}"));
-            next_report = Instant::now() + REPORT;
+            next_report = Instant::now() + REPORT_PERIOD;
         }
-        thread::sleep(LOOK);
+        thread::sleep(POLL_PERIOD);
     }
 }
 
@@ -305,11 +294,11 @@ fn stop_servers(change: &LiveChange, stores: &Stores<'_>) -> Done {
         if begun.elapsed() >= START_OR_END {
             return Err(format!("--stop has ended, and {by} serves still").into());
         }
-        if begun.elapsed() >= REPORT && !is_reported {
+        if begun.elapsed() >= REPORT_PERIOD && !is_reported {
             output::report(&format!("waits for the end of {by}, which --stop has to stop"));
             is_reported = true;
         }
-        thread::sleep(LOOK);
+        thread::sleep(POLL_PERIOD);
     }
     Ok(())
 }

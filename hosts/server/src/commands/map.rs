@@ -2,25 +2,23 @@
 //! and clients follow.
 use super::next_map;
 use crate::daemon::map_home::Home;
+use crate::process::Done;
 use crate::process::log::Unanswered;
 use crate::process::output::{self, cause};
 use crate::process::replaced_file::NextFile;
 use crate::settings::{StorePlace, credentials};
 use clap::Subcommand;
 use krl::{ShardMap, StoreError};
-use std::error::Error;
 use std::io;
 use std::path::{Path, PathBuf};
 use std::thread;
 use std::time::Duration;
 
-type Done<T = ()> = Result<T, Box<dyn Error>>;
-
 /// How long one wait for a change is.
-const WAIT: Duration = Duration::from_secs(60);
+const CHANGE_WAIT: Duration = Duration::from_secs(60);
 
 /// The pause before a place that does not answer, or whose map can't be taken, is asked again.
-const PAUSE: Duration = Duration::from_secs(1);
+const HOME_PAUSE: Duration = Duration::from_secs(1);
 
 /// What is done with a map that is at home in a database.
 #[derive(Debug, Subcommand)]
@@ -120,7 +118,7 @@ fn follow(place: &StorePlace, file: &Path) -> Done {
         let why = match home.read() {
             Ok(found) => match found.as_deref().map_or(Ok(()), |text| take(text, file)) {
                 Ok(()) => {
-                    home.wait(WAIT);
+                    home.wait(CHANGE_WAIT);
                     continue;
                 }
                 Err(why) => why.to_string(),
@@ -129,7 +127,7 @@ fn follow(place: &StorePlace, file: &Path) -> Done {
             Err(error) => return Err(format!("{place}: {}", cause(&error)).into()),
         };
         unanswered.report(&format!("{place}: {why}"));
-        thread::sleep(PAUSE);
+        thread::sleep(HOME_PAUSE);
     }
 }
 

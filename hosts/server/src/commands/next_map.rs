@@ -1,4 +1,5 @@
 //! The map after a split or a merge, as a file.
+use crate::process::Done;
 use crate::process::replaced_file::sync_folder_of;
 use clap::Args;
 use krl::{Address, KeptShard, Servers, Shard, ShardBounds, ShardMap, Snapshot};
@@ -6,8 +7,6 @@ use std::error::Error;
 use std::fs::OpenOptions;
 use std::io::{self, ErrorKind, Write};
 use std::path::{Path, PathBuf};
-
-type Result<T> = std::result::Result<T, Box<dyn Error>>;
 
 /// The map of a split.
 #[derive(Debug, Args)]
@@ -46,7 +45,7 @@ pub struct NextMap {
 
 impl SplitMap {
     /// The next map, if one is wanted. The store has to be that of the shard that is cut.
-    pub fn next(&self, at: u64, store: &Snapshot) -> Result<Option<NextMap>> {
+    pub fn next(&self, at: u64, store: &Snapshot) -> Done<Option<NextMap>> {
         let (Some(path), Some(servers), Some(new)) = (&self.map, &self.servers, &self.new_map)
         else {
             return Ok(None);
@@ -69,7 +68,7 @@ impl MergeMap {
     }
 
     /// The next map, if one is wanted. The stores have to be those of the two shards.
-    pub fn next(&self, lower: &Snapshot, upper: &Snapshot) -> Result<Option<NextMap>> {
+    pub fn next(&self, lower: &Snapshot, upper: &Snapshot) -> Done<Option<NextMap>> {
         let (Some(path), Some(at), Some(new)) = (&self.map, self.at, &self.new_map) else {
             return Ok(None);
         };
@@ -102,7 +101,7 @@ pub struct MergedShards {
 impl CutShards {
     /// Refuses a store that is not of the shard that is cut, or, if an earlier call has cut it, not
     /// of the lower half: it would lose rows.
-    pub fn refuse_other(&self, own: KeptShard, is_cut: bool) -> Result<()> {
+    pub fn refuse_other(&self, own: KeptShard, is_cut: bool) -> Done {
         refuse_other_shard(own, if is_cut { self.lower } else { self.whole })
     }
 }
@@ -114,7 +113,7 @@ impl MergedShards {
     }
 
     /// Refuses stores that are not of the two shards. An earlier call may have sealed them.
-    pub fn refuse_others(&self, stores: [Option<KeptShard>; 2]) -> Result<()> {
+    pub fn refuse_others(&self, stores: [Option<KeptShard>; 2]) -> Done {
         for ((own, before), sealed) in stores.into_iter().zip(self.before).zip(self.sealed()) {
             let own = own.filter(|own| *own != KeptShard::sealed(sealed));
             own.map_or(Ok(()), |own| refuse_other_shard(own, before))?;
@@ -123,7 +122,7 @@ impl MergedShards {
     }
 }
 
-fn refuse_other_shard(own: KeptShard, expected: ShardBounds) -> Result<()> {
+fn refuse_other_shard(own: KeptShard, expected: ShardBounds) -> Done {
     if own == KeptShard::open(expected) {
         return Ok(());
     }
@@ -132,19 +131,19 @@ fn refuse_other_shard(own: KeptShard, expected: ShardBounds) -> Result<()> {
 
 impl NextMap {
     /// The shards of the cut at this key.
-    pub fn shards_of_cut(&self, at: u64) -> Result<CutShards> {
+    pub fn shards_of_cut(&self, at: u64) -> Done<CutShards> {
         let [lower, upper] = neighbors(&self.map, at)?;
-        let whole = bounds(&self.before, self.before.shard_of(at).ok())?;
+        let whole = bounds(&self.before, at)?;
         Ok(CutShards { whole, lower, upper })
     }
 
     /// The shards of the merge of those that meet at this key.
-    pub fn shards_of_merge(&self, at: u64) -> Result<MergedShards> {
-        let whole = bounds(&self.map, self.map.shard_of(at).ok())?;
+    pub fn shards_of_merge(&self, at: u64) -> Done<MergedShards> {
+        let whole = bounds(&self.map, at)?;
         Ok(MergedShards { whole, before: neighbors(&self.before, at)? })
     }
 
-    fn new(before: ShardMap, map: ShardMap, path: &Path) -> Result<NextMap> {
+    fn new(before: ShardMap, map: ShardMap, path: &Path) -> Done<NextMap> {
         if !may_become(path, &map.to_toml())? {
             return Err(format!("there is a file {} already", path.display()).into());
         }
@@ -152,7 +151,7 @@ impl NextMap {
     }
 
     /// Writes the map, and returns by which shard each server has to be started.
-    pub fn write(&self) -> Result<String> {
+    pub fn write(&self) -> Done<String> {
         let at = self.path.display();
         write(&self.path, &self.map.to_toml()).map_err(|error| {
             format!("the stores are as they should be, but the map {at} can't be written: {error}")
@@ -189,19 +188,18 @@ fn write(path: &Path, text: &str) -> io::Result<()> {
     sync_folder_of(path)
 }
 
-/// What the shard of this number has, if the map has such a shard.
-pub fn bounds(map: &ShardMap, shard: Option<usize>) -> Result<ShardBounds> {
-    let bounds = shard.and_then(|shard| map.bounds_of(shard));
+/// What the shard of this key has.
+pub fn bounds(map: &ShardMap, key: u64) -> Done<ShardBounds> {
+    let bounds = map.shard_of(key).ok().and_then(|shard| map.bounds_of(shard));
     bounds.ok_or_else(|| "the map has no such shard".into())
 }
 
 /// The two shards that meet at this key.
-pub fn neighbors(map: &ShardMap, at: u64) -> Result<[ShardBounds; 2]> {
-    let upper = map.shard_of(at)?;
-    Ok([bounds(map, upper.checked_sub(1))?, bounds(map, Some(upper))?])
+fn neighbors(map: &ShardMap, at: u64) -> Done<[ShardBounds; 2]> {
+    Ok([bounds(map, at - 1)?, bounds(map, at)?])
 }
 
-pub fn read(path: &Path) -> Result<ShardMap> {
+pub fn read(path: &Path) -> Done<ShardMap> {
     ShardMap::from_file(path)
         .map_err(|error| format!("the map {} can't be used: {error}", path.display()).into())
 }
@@ -211,7 +209,7 @@ pub fn no_map(path: &Path, at: u64, error: &dyn Error) -> Box<dyn Error> {
 }
 
 /// Refuses a server that has a shard in the map already: a server has one.
-pub fn refuse_server_of_map(map: &ShardMap, servers: &Servers) -> Result<()> {
+pub fn refuse_server_of_map(map: &ShardMap, servers: &Servers) -> Done {
     let has = |shard: &Shard, address: &Address| shard.servers.iter().any(|it| it == address);
     for address in servers.iter() {
         if let Some(shard) = map.shards().iter().position(|shard| has(shard, address)) {
@@ -225,7 +223,7 @@ pub fn refuse_server_of_map(map: &ShardMap, servers: &Servers) -> Result<()> {
 }
 
 /// Refuses a store without rows, if it might be that of another shard: its rows would show which.
-fn refuse_empty_store(map: &ShardMap, point: u64, store: &Snapshot) -> Result<()> {
+fn refuse_empty_store(map: &ShardMap, point: u64, store: &Snapshot) -> Done {
     if map.shards().len() == 1 || !store.rows.is_empty() {
         return Ok(());
     }
@@ -238,7 +236,7 @@ fn refuse_empty_store(map: &ShardMap, point: u64, store: &Snapshot) -> Result<()
 }
 
 /// Refuses a store with a key that the shard of this point does not have.
-fn refuse_other_store(map: &ShardMap, point: u64, store: &Snapshot) -> Result<()> {
+fn refuse_other_store(map: &ShardMap, point: u64, store: &Snapshot) -> Done {
     let shard = map.shard_of(point)?;
     let stray = store.rows.keys().find(|key| map.shard_of(**key) != Ok(shard));
     let Some(key) = stray else { return Ok(()) };

@@ -21,15 +21,13 @@
 use super::map_changes::{self, MapChange, MapChanges};
 use super::next_map;
 use crate::daemon::owner::Owner;
+use crate::process::Done;
 use crate::process::replaced_file::NextFile;
 use krl::ShardMap;
-use std::error::Error;
 use std::io;
 use std::num::NonZeroU64;
 use std::path::{Path, PathBuf};
 use std::process::Command;
-
-type Done<T = ()> = Result<T, Box<dyn Error>>;
 
 /// The file of the map, which no other command changes until this value is gone.
 pub struct MapFile {
@@ -44,13 +42,13 @@ pub struct MapFile {
 /// A change of the map in the file.
 pub struct PublishedMap {
     file: MapFile,
-    change: MapChange,
+    pub change: MapChange,
     /// The other changes that are noted.
     others: Vec<MapChange>,
     /// The greatest version of a map that somebody may have.
     last: NonZeroU64,
     /// Whether the map in the file had nothing of it when it was found.
-    is_new: bool,
+    pub is_new: bool,
 }
 
 /// The map in the file, the changes of it, and the greatest version of a map that somebody may have.
@@ -170,24 +168,6 @@ impl MapFile {
 }
 
 impl PublishedMap {
-    pub fn before(&self) -> &ShardMap {
-        &self.change.before
-    }
-
-    pub fn next(&self) -> &ShardMap {
-        &self.change.next
-    }
-
-    /// Whether the map in the file had nothing of it when the command began.
-    pub fn is_new(&self) -> bool {
-        self.is_new
-    }
-
-    /// The shards that change, as they are before, and their servers.
-    pub fn shown_before(&self) -> String {
-        self.change.shown_before()
-    }
-
     /// Notes the change, before anybody gets the next map.
     pub fn begin(&self) -> Done {
         if self.is_new { self.note(Some(&self.change)) } else { Ok(()) }

@@ -3,13 +3,12 @@
 //! A command that was killed is repeated: the stores show how far it had come.
 use super::next_map::{MergeMap, NextMap, SplitMap};
 use super::stores::{self, own, read_left};
+use crate::process::Done;
 use crate::process::output::{self, cause};
 use krl::operate::{Checksum, StoreFile};
 use krl::{END, KeptShard, ShardBounds, Snapshot, SqliteStore, Store};
 use std::error::Error;
 use std::path::Path;
-
-type Done<T = ()> = Result<T, Box<dyn Error>>;
 
 /// Moves the rows from the key on into a new store, and returns what was done. Without
 /// `is_empty_allowed` it refuses to move none.

@@ -1,9 +1,9 @@
 //! A new store from a backup, for a server that takes up work again.
 use super::stores;
+use crate::process::Done;
 use crate::process::output;
 use crate::settings::{BadSetting, StorePlace};
 use krl::{END, LeaseRecord, Snapshot};
-use std::error::Error;
 use std::path::Path;
 
 /// How far the epoch of a restored store lies after that of the backup: no server has started this
@@ -17,7 +17,7 @@ const CLIENTS_LIVE: &str = "\
     cache with outdated rows";
 
 /// Writes the backup as a new store on which a server serves at once, and reports what it contains.
-pub fn restore(backup: &Path, store: &StorePlace, are_stopped: bool) -> Result<(), Box<dyn Error>> {
+pub fn restore(backup: &Path, store: &StorePlace, are_stopped: bool) -> Done {
     if !are_stopped {
         return Err(BadSetting::new(CLIENTS_LIVE.to_string()).into());
     }

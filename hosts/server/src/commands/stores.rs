@@ -1,27 +1,18 @@
 //! The stores of commands, which no server serves meanwhile.
 use crate::daemon::owner::{self, Owner};
-use crate::process::output::{self, cause};
+use crate::process::Done;
+use crate::process::output::{self, cause, numbers};
 use crate::process::replaced_file::beside;
 use crate::settings::{StorePlace, credentials};
 use krl::operate::StoreFile;
 use krl::{Snapshot, SqliteStore, StoreError};
 use krl_etcd::EtcdStore;
 use krl_postgres::PostgresStore;
-use std::error::Error;
-use std::fmt::{self, Display};
+use std::fmt::Display;
 use std::fs;
 use std::ops::Range;
-use std::path::{Path, PathBuf};
+use std::path::Path;
 use std::time::{SystemTime, UNIX_EPOCH};
-
-type Done<T = ()> = Result<T, Box<dyn Error>>;
-
-/// A store can't be cut yet: these clients have not left it.
-#[derive(Debug)]
-struct NotLeft {
-    store: PathBuf,
-    clients: Vec<u8>,
-}
 
 /// Refuses a file that a process serves.
 pub fn refuse_served(file: &Path) -> Result<(), String> {
@@ -51,7 +42,7 @@ pub fn judge(store: &impl Display, snapshot: &Snapshot) -> Result<(), String> {
 }
 
 /// Makes a new store.
-pub fn create(place: &StorePlace, snapshot: &Snapshot) -> Result<(), Box<dyn Error>> {
+pub fn create(place: &StorePlace, snapshot: &Snapshot) -> Done {
     let made = match place {
         StorePlace::File(path) => SqliteStore::create(path, snapshot),
         StorePlace::Etcd(address) => {
@@ -87,7 +78,7 @@ pub fn set_unused_aside(store: &Path, keys: &Range<u64>) -> Done {
 }
 
 /// No server starts on the store while this process has it.
-pub fn own(store: &Path) -> Result<Owner, Box<dyn Error>> {
+pub fn own(store: &Path) -> Done<Owner> {
     if !store.exists() {
         return Err(format!("there is no store {}", store.display()).into());
     }
@@ -95,26 +86,20 @@ pub fn own(store: &Path) -> Result<Owner, Box<dyn Error>> {
 }
 
 /// All that was kept, if no client may still answer for it.
-pub fn read_left(store: &Path) -> Result<StoreFile, Box<dyn Error>> {
+pub fn read_left(store: &Path) -> Done<StoreFile> {
     let file = read_undamaged(store)?;
-    let present = file.snapshot.present();
-    if present.is_empty() {
-        return Ok(file);
-    }
-    Err(NotLeft { store: store.into(), clients: present }.into())
-}
-
-impl fmt::Display for NotLeft {
-    fn fmt(&self, f: &mut fmt::Formatter<'_>) -> fmt::Result {
-        let clients: Vec<String> = self.clients.iter().map(u8::to_string).collect();
-        write!(
-            f,
-            "{} has clients that have not left: {}. Serve it once more, and let each leave, or evict \
-             it if its process is dead",
-            self.store.display(),
-            clients.join(", ")
+    match who_has_not_left(&store.display(), &file.snapshot) {
+        None => Ok(file),
+        Some(who) => Err(format!(
+            "{who}. Serve it once more, and let each leave, or evict it if its process is dead"
         )
+        .into()),
     }
 }
 
-impl Error for NotLeft {}
+/// The clients that have not left the store, in words, if there are any.
+pub fn who_has_not_left(store: &impl Display, snapshot: &Snapshot) -> Option<String> {
+    let present = snapshot.present();
+    let clients = numbers(&present);
+    (!present.is_empty()).then(|| format!("{store} has clients that have not left: {clients}"))
+}

@@ -1,16 +1,13 @@
 //! Clients that wait for a long time, in the log.
 use crate::process::role::{Role, State};
+use crate::status::locks::LONG_WAIT;
 use krl::Wait;
 use std::collections::BTreeMap;
 use std::io;
-use std::thread;
 use std::time::Duration;
 
-/// A wait of this length is long: it is reported once as it becomes so, and once when it has ended.
-const LONG: Duration = Duration::from_secs(10);
-
 /// How often the waits are looked at.
-const LOOKS: Duration = Duration::from_secs(1);
+const WAITS_PERIOD: Duration = Duration::from_secs(1);
 
 /// The clients whose waits were reported as long, and for how long each had waited when last seen.
 #[derive(Debug, Default)]
@@ -23,21 +20,17 @@ enum News {
     HasEnded { client: u8, waited: Duration },
 }
 
-/// Logs long waits from now on, while the process serves.
+/// Logs long waits from now on, while the process serves: each once as it becomes long, and once when it
+/// has ended.
 pub fn start(role: Role) -> io::Result<()> {
-    let run = move || {
-        let mut waits = LongWaits::default();
-        loop {
-            let now = match role.state() {
-                State::Serves { monitor, .. } => monitor.status().waits,
-                _ => Vec::new(),
-            };
-            waits.look(&now).iter().for_each(News::log);
-            thread::sleep(LOOKS);
-        }
-    };
-    thread::Builder::new().name("long-waits".to_string()).spawn(run)?;
-    Ok(())
+    let mut waits = LongWaits::default();
+    role.watch("long-waits", WAITS_PERIOD, move |state| {
+        let now = match state {
+            State::Serves { monitor, .. } => monitor.status().waits,
+            _ => Vec::new(),
+        };
+        waits.look(&now).iter().for_each(News::log);
+    })
 }
 
 impl LongWaits {
@@ -55,7 +48,7 @@ impl LongWaits {
             }
             goes_on
         });
-        for wait in now.iter().filter(|wait| wait.waited >= LONG) {
+        for wait in now.iter().filter(|wait| wait.waited >= LONG_WAIT) {
             if self.0.insert(wait.client, wait.waited).is_none() {
                 news.push(News::IsLong(wait.clone()));
             }

@@ -1,24 +1,15 @@
-//! A map of shards that is at home in etcd or PostgreSQL, or in a file.
+//! A map of shards that is at home in etcd or PostgreSQL.
+use crate::process::Done;
 use crate::settings::StorePlace;
-use krl::{ShardMap, StoreError};
+use krl::StoreError;
 use krl_etcd::{Credentials, EtcdMap};
 use krl_postgres::PostgresMap;
-use std::error::Error;
-use std::path::PathBuf;
 use std::time::Duration;
-
-type Done<T = ()> = Result<T, Box<dyn Error>>;
 
 /// Where a map is at home.
 pub enum Home {
     Etcd(Box<EtcdMap>),
     Postgres(Box<PostgresMap>),
-}
-
-/// The map that a server watches.
-pub enum WatchedMap {
-    File(PathBuf),
-    AtHome(Home),
 }
 
 impl Home {
@@ -53,23 +44,6 @@ impl Home {
         match self {
             Home::Etcd(map) => map.wait(most),
             Home::Postgres(map) => map.wait(most),
-        }
-    }
-}
-
-impl WatchedMap {
-    pub fn open(place: &StorePlace, credentials: &Credentials) -> Done<WatchedMap> {
-        Ok(match place {
-            StorePlace::File(path) => WatchedMap::File(path.clone()),
-            home => WatchedMap::AtHome(Home::open(home, credentials)?),
-        })
-    }
-
-    /// The map that stands there now, if one does that can be read.
-    pub fn read(&mut self) -> Option<ShardMap> {
-        match self {
-            WatchedMap::File(path) => ShardMap::from_file(path).ok(),
-            WatchedMap::AtHome(home) => ShardMap::from_toml(&home.read().ok()??).ok(),
         }
     }
 }

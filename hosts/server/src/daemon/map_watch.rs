@@ -1,14 +1,15 @@
 //! The map that clients follow, as a server watches it: clients that do not follow it may not hold a
 //! change up for longer than their leases.
-use super::map_home::WatchedMap;
+use super::map_home::Home;
+use crate::process::Done;
 use crate::process::role::{Role, State};
+use crate::settings::StorePlace;
 use krl::{ShardBounds, ShardMap};
-use std::io;
-use std::thread;
+use krl_etcd::Credentials;
 use std::time::{Duration, Instant};
 
 /// How often the map is looked at.
-const LOOK: Duration = Duration::from_millis(200);
+const MAP_PERIOD: Duration = Duration::from_millis(200);
 
 /// How long clients that follow the map have to leave a shard that changes.
 const GRACE: Duration = Duration::from_secs(10);
@@ -17,26 +18,32 @@ const GRACE: Duration = Duration::from_secs(10);
 type Next = Option<(ShardBounds, Instant)>;
 
 /// Watches the map from now on, while the process serves.
-pub fn start(role: Role, mut map: WatchedMap) -> io::Result<()> {
-    let run = move || {
-        let (mut next, mut told) = (None, None);
-        loop {
-            if let State::Serves { monitor, .. } = role.state() {
-                let own = monitor.status().shard;
-                let found = own.and_then(|own| in_place_of(own, &map.read()?));
-                next = since(next, found, Instant::now());
-                let tells =
-                    next.filter(|(_, since)| since.elapsed() >= GRACE).map(|(next, _)| next);
-                if tells != told && monitor.give_way(tells) {
-                    log(tells);
-                    told = tells;
-                }
-            }
-            thread::sleep(LOOK);
+pub fn start(role: Role, map: &StorePlace, credentials: &Credentials) -> Done {
+    let (mut read, mut next, mut given) = (reader(map, credentials)?, None, None);
+    Ok(role.watch("map", MAP_PERIOD, move |state| {
+        let State::Serves { monitor, .. } = state else { return };
+        let own = monitor.status().shard;
+        let found = own.and_then(|own| in_place_of(own, &read()?));
+        next = since(next, found, Instant::now());
+        let due = next.filter(|(_, since)| since.elapsed() >= GRACE).map(|(next, _)| next);
+        if due != given && monitor.give_way(due) {
+            log(due);
+            given = due;
         }
-    };
-    thread::Builder::new().name("map".to_string()).spawn(run)?;
-    Ok(())
+    })?)
+}
+
+/// What reads the map that stands there, if one does that can be read.
+fn reader(
+    map: &StorePlace,
+    credentials: &Credentials,
+) -> Done<Box<dyn FnMut() -> Option<ShardMap> + Send>> {
+    if let StorePlace::File(path) = map {
+        let path = path.clone();
+        return Ok(Box::new(move || ShardMap::from_file(&path).ok()));
+    }
+    let mut home = Home::open(map, credentials)?;
+    Ok(Box::new(move || ShardMap::from_toml(&home.read().ok()??).ok()))
 }
 
 fn log(next: Option<ShardBounds>) {
@@ -92,7 +99,7 @@ mod tests {
     #[test]
     fn what_is_found_again_is_as_old_as_it_was() {
         let (begun, next) = (Instant::now(), "0..50@2".parse().unwrap());
-        let later = begun + LOOK;
+        let later = begun + MAP_PERIOD;
         let found = since(None, Some(next), begun);
         assert_eq!(since(found, Some(next), later), Some((next, begun)));
         assert_eq!(since(found, None, later), None);

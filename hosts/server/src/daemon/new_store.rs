@@ -70,18 +70,3 @@ fn missing(what: &str) -> StoreError {
          --create at the first start"
     ))
 }
-
-#[cfg(test)]
-mod tests {
-    use super::*;
-    use krl::{Row, Value};
-
-    #[test]
-    fn a_store_is_new_until_it_has_a_row_or_a_server() {
-        let row = Row { key: 1, value: Value::from(1) };
-        let filled = [(row.key, row.value)].into_iter().collect();
-        assert!(is_new(&Snapshot::default()));
-        assert!(!is_new(&Snapshot { rows: filled, ..Snapshot::default() }));
-        assert!(!is_new(&Snapshot { epoch: 1, ..Snapshot::default() }));
-    }
-}

@@ -1,7 +1,6 @@
 //! Who serves a store, or changes a map, as stated in a file next to it.
 use crate::process::output::cause;
 use crate::process::replaced_file::beside;
-use krl::StoreError;
 use krl::operate::store_file;
 use std::fmt;
 use std::fs::{File, OpenOptions, TryLockError};
@@ -18,46 +17,36 @@ pub struct Owner {
     _lock: File,
 }
 
-/// Why a store can't be served, or a map changed.
-#[derive(Debug)]
-pub enum NotOwned {
-    /// Another process does so.
-    Owned { what: String, by: String },
-    /// The file next to it can't be used.
-    File { path: PathBuf, error: io::Error },
-    /// Its name means no file of its own.
-    Name { store: PathBuf, error: StoreError },
-}
-
 /// How long a server waits for a process that only looks whether the store is served.
-const LOOKS: Duration = Duration::from_millis(100);
+const LOCK_PATIENCE: Duration = Duration::from_millis(100);
 
 /// The longest line that is read from the file.
 const MAX_LINE: u64 = 1000;
 
 impl Owner {
     /// Takes the right to serve the store, and writes the holder into the file next to it.
-    pub fn take(store: &Path, address: &dyn fmt::Display) -> Result<Owner, NotOwned> {
-        let named = |error| NotOwned::Name { store: store.to_path_buf(), error };
+    pub fn take(store: &Path, address: &dyn fmt::Display) -> Result<Owner, String> {
+        let named =
+            |error| format!("the store {} can't be used: {}", store.display(), cause(&error));
         let what = format!("the store {} is served", store.display());
-        Owner::lock(store_file(store).map_err(named)?, what, &format_args!("at {address}"))
+        Owner::lock(store_file(store).map_err(named)?, &what, &format_args!("at {address}"))
     }
 
     /// Takes the right to change the map, in the same way.
-    pub fn of_map(map: &Path, change: &dyn fmt::Display) -> Result<Owner, NotOwned> {
-        Owner::lock(map.into(), format!("the map {} is changed", map.display()), change)
+    pub fn of_map(map: &Path, change: &dyn fmt::Display) -> Result<Owner, String> {
+        Owner::lock(map.into(), &format!("the map {} is changed", map.display()), change)
     }
 
-    fn lock(file: PathBuf, what: String, note: &dyn fmt::Display) -> Result<Owner, NotOwned> {
+    fn lock(file: PathBuf, what: &str, note: &dyn fmt::Display) -> Result<Owner, String> {
         let path = path_of(&file);
-        let fails = |error| NotOwned::File { path: path.clone(), error };
+        let fails = |error| format!("the lock file {} can't be used: {error}", path.display());
         let mut options = OpenOptions::new();
         options.read(true).write(true).create(true).truncate(false);
         let mut lock = options.open(&path).map_err(fails)?;
-        match lock_within(&lock, LOOKS) {
+        match lock_within(&lock, LOCK_PATIENCE) {
             Ok(()) => {}
             Err(TryLockError::WouldBlock) => {
-                return Err(NotOwned::Owned { what, by: line_of(&lock) });
+                return Err(format!("{what} already, by {}", line_of(&lock)));
             }
             Err(TryLockError::Error(error)) => return Err(fails(error)),
         }
@@ -115,22 +104,6 @@ fn line_of(file: &File) -> String {
     }
 }
 
-impl fmt::Display for NotOwned {
-    fn fmt(&self, f: &mut fmt::Formatter<'_>) -> fmt::Result {
-        match self {
-            NotOwned::Owned { what, by } => write!(f, "{what} already, by {by}"),
-            NotOwned::File { path, error } => {
-                write!(f, "the lock file {} can't be used: {error}", path.display())
-            }
-            NotOwned::Name { store, error } => {
-                write!(f, "the store {} can't be used: {}", store.display(), cause(error))
-            }
-        }
-    }
-}
-
-impl std::error::Error for NotOwned {}
-
 #[cfg(test)]
 mod tests {
     use super::*;
@@ -140,7 +113,7 @@ mod tests {
         let folder = tempfile::tempdir().unwrap();
         let store = folder.path().join("krl.db");
         let owner = Owner::take(&store, &"127.0.0.1:7400").unwrap();
-        let refused = Owner::take(&store, &"127.0.0.1:1").unwrap_err().to_string();
+        let refused = Owner::take(&store, &"127.0.0.1:1").unwrap_err();
         let by = format!("served already, by process {}, at 127.0.0.1:7400", std::process::id());
         assert!(refused.ends_with(&by), "{refused}");
         assert!(served_by(&store).is_some_and(|by| by.ends_with("at 127.0.0.1:7400")));
@@ -155,17 +128,6 @@ mod tests {
         let line = std::fs::read_to_string(path_of(&store)).unwrap();
         assert_eq!(line, format!("process {}, at x\n", std::process::id()));
         assert!(Owner::take(&folder.path().join("none/krl.db"), &"x").is_err());
-    }
-
-    #[test]
-    fn one_change_of_a_map_at_a_time() {
-        let folder = tempfile::tempdir().unwrap();
-        let map = folder.path().join("map.toml");
-        let _owner = Owner::of_map(&map, &"split a.db 5 b.db").unwrap();
-        let refused = Owner::of_map(&map, &"merge a.db b.db c.db").unwrap_err().to_string();
-        let by =
-            format!("is changed already, by process {}, split a.db 5 b.db", std::process::id());
-        assert!(refused.ends_with(&by), "{refused}");
     }
 
     #[test]

@@ -15,7 +15,7 @@ use std::sync::atomic::{AtomicBool, AtomicUsize, Ordering};
 use std::time::Duration;
 
 /// How often the server is asked whether it still runs, and whether it is to stop.
-const LOOK: Duration = Duration::from_millis(20);
+const CHECK_PERIOD: Duration = Duration::from_millis(20);
 
 /// The exit status of a process that a second signal ends.
 const ENDED_AT_ONCE: i32 = 1;
@@ -113,7 +113,7 @@ impl Daemon<'_> {
     ) -> Result<Ended, HasFailed> {
         let mut ended = Ended::BySignal;
         while server.is_running() && !self.signal.has_come() {
-            if !runs(LOOK) {
+            if !runs(CHECK_PERIOD) {
                 ended = Ended::LeaseRanOut;
                 break;
             }

@@ -1,9 +1,9 @@
 //! A server, from its start until it is stopped.
-use super::map_home::WatchedMap;
 use super::new_store;
 use super::owner::Owner;
 use super::running::{Daemon, HasFailed, Signal};
 use super::{long_waits, map_watch, open_files, stand_by, watchdog};
+use crate::process::Done;
 use crate::process::log::{self, Unanswered};
 use crate::process::output::{self, cause};
 use crate::process::reload;
@@ -54,7 +54,7 @@ fn exit_status(error: &(dyn Error + 'static)) -> ExitCode {
     }
 }
 
-fn run(settings: &Settings) -> Result<(), Box<dyn Error>> {
+fn run(settings: &Settings) -> Done {
     open_files::allow();
     let (signal, role) = (Signal::catch()?, Role::default());
     let tls = settings.access.tls()?;
@@ -66,7 +66,7 @@ fn run(settings: &Settings) -> Result<(), Box<dyn Error>> {
     watchdog::start(role.clone())?;
     long_waits::start(role.clone())?;
     if let Some(map) = &settings.map {
-        map_watch::start(role.clone(), WatchedMap::open(map, &settings.credentials)?)?;
+        map_watch::start(role.clone(), map, &settings.credentials)?;
     }
     if let StatusAddress::At(address) = &settings.status {
         let table = Table { others: Others::new(settings.others()?), shard: settings.shard };
@@ -87,7 +87,7 @@ fn run(settings: &Settings) -> Result<(), Box<dyn Error>> {
 }
 
 /// Serves what a file has, which no other process serves meanwhile.
-fn serve_file(daemon: &Daemon<'_>, path: &Path) -> Result<(), Box<dyn Error>> {
+fn serve_file(daemon: &Daemon<'_>, path: &Path) -> Done {
     let settings = daemon.settings;
     let fails = |error: StoreError| {
         format!("the store {} can't be opened: {}", path.display(), cause(&error))
@@ -101,7 +101,7 @@ fn serve_file(daemon: &Daemon<'_>, path: &Path) -> Result<(), Box<dyn Error>> {
 }
 
 /// Serves what a database has, once it answers.
-fn serve_database(daemon: &Daemon<'_>, address: &PostgresAddress) -> Result<(), Box<dyn Error>> {
+fn serve_database(daemon: &Daemon<'_>, address: &PostgresAddress) -> Done {
     let mut store = PostgresStore::open(address, daemon.settings.credentials.user.as_ref())?;
     let mut unanswered = Unanswered::default();
     let answers = store.reach(|why| {
@@ -113,7 +113,7 @@ fn serve_database(daemon: &Daemon<'_>, address: &PostgresAddress) -> Result<(), 
 
 /// Serves what a store has, until a signal comes. Nothing stands by: a server that loses the store
 /// ends.
-fn serve_store(daemon: &Daemon<'_>, store: impl Store + 'static) -> Result<(), Box<dyn Error>> {
+fn serve_store(daemon: &Daemon<'_>, store: impl Store + 'static) -> Done {
     let listen = &daemon.settings.listen;
     let listener = Listener::bind(listen)
         .map_err(|error| format!("can't listen for clients at {listen}: {error}"))?;

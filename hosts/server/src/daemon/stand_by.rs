@@ -1,12 +1,12 @@
 //! Servers over a cluster: one serves, and the others stand by.
 use super::running::{self, Daemon, Ended, HasFailed};
+use crate::process::Done;
 use crate::process::log::Unanswered;
 use krl::{Listener, ServeError, Store, StoreError};
 use krl_etcd::{Election, EtcdAddress, EtcdStore, Standing, Term};
-use std::error::Error;
 
 /// Stands by, serves, and stands by again, until a signal comes.
-pub fn run(daemon: &Daemon<'_>, address: &EtcdAddress) -> Result<(), Box<dyn Error>> {
+pub fn run(daemon: &Daemon<'_>, address: &EtcdAddress) -> Done {
     let settings = daemon.settings;
     let credentials = &settings.credentials;
     let advertised = settings.advertise.as_ref().unwrap_or(&settings.listen);

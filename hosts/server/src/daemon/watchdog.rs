@@ -1,10 +1,12 @@
 //! The service manager's watchdog: it restarts a service that does not report for too long.
-use crate::process::role::Role;
+use crate::process::role::{Role, State};
 use krl::operate::Liveness;
 use sd_notify::NotifyState;
 use std::io;
-use std::thread;
 use std::time::Duration;
+
+/// How many reports are sent in the time of a watchdog: one that is late is in time.
+const REPORTS: u32 = 4;
 
 /// Reports to the service manager for as long as the process is alive, if the manager has a
 /// watchdog for this service.
@@ -13,29 +15,17 @@ pub fn start(role: Role) -> io::Result<()> {
     if !sd_notify::watchdog_enabled(false, &mut microseconds) {
         return Ok(());
     }
-    let pause = pause_of(Duration::from_micros(microseconds));
-    let reports = move || {
-        loop {
-            if is_alive(&role) {
-                // A manager that gets no report restarts the service, which is all that can be
-                // done.
-                let _ = sd_notify::notify(false, &[NotifyState::Watchdog]);
-            }
-            thread::sleep(pause);
+    role.watch("watchdog", Duration::from_micros(microseconds) / REPORTS, |state| {
+        if is_alive(&state) {
+            // A manager that gets no report restarts the service, which is all that can be done.
+            let _ = sd_notify::notify(false, &[NotifyState::Watchdog]);
         }
-    };
-    thread::Builder::new().name("watchdog".to_string()).spawn(reports)?;
-    Ok(())
+    })
 }
 
 /// Whether the process continues. One that does not serve does.
-fn is_alive(role: &Role) -> bool {
-    role.state().liveness().is_none_or(Liveness::is_alive)
-}
-
-/// How long to wait between two reports to a watchdog of this length.
-fn pause_of(watchdog: Duration) -> Duration {
-    watchdog / 4
+fn is_alive(state: &State) -> bool {
+    state.liveness().is_none_or(Liveness::is_alive)
 }
 
 #[cfg(test)]
@@ -44,12 +34,8 @@ mod tests {
     use krl::{Address, Change, Listener, MemoryStore, Server, Snapshot, Store, StoreError};
     use std::sync::Arc;
     use std::sync::atomic::{AtomicBool, Ordering};
+    use std::thread;
     use std::time::Instant;
-
-    #[test]
-    fn a_report_may_be_late_and_is_in_time() {
-        assert_eq!(pause_of(Duration::from_secs(60)), Duration::from_secs(15));
-    }
 
     /// A store whose commits wait for as long as `is_silent` is set.
     #[derive(Default)]
@@ -82,7 +68,7 @@ mod tests {
     #[test]
     fn a_server_whose_store_is_silent_for_too_long_is_not_alive() {
         let role = Role::default();
-        assert!(is_alive(&role), "it starts");
+        assert!(is_alive(&role.state()), "it starts");
         let is_silent = Arc::new(AtomicBool::new(false));
         let store = Silent { is_silent: Arc::clone(&is_silent), ..Silent::default() };
         let address: Address = "127.0.0.1:0".parse().unwrap();
@@ -91,7 +77,7 @@ mod tests {
         is_silent.store(true, Ordering::Relaxed);
         // An idle server asks its store once a second.
         let end = Instant::now() + Duration::from_secs(60);
-        while is_alive(&role) {
+        while is_alive(&role.state()) {
             assert!(Instant::now() < end, "it is alive after a minute");
             thread::sleep(Duration::from_millis(10));
         }

@@ -19,10 +19,10 @@ use tracing_subscriber::util::SubscriberInitExt;
 const MAX_WAITING: usize = 1024;
 
 /// How long a process that ends waits until its last lines are written.
-const LAST_WRITES: Duration = Duration::from_millis(500);
+const LAST_LINES_WAIT: Duration = Duration::from_millis(500);
 
 /// How long to wait before a queue that is full is tried again.
-const PAUSE: Duration = Duration::from_millis(5);
+const FULL_QUEUE_PAUSE: Duration = Duration::from_millis(5);
 
 /// How many lines were lost.
 static LOST: AtomicU64 = AtomicU64::new(0);
@@ -75,7 +75,7 @@ fn shown_at(level: LevelFilter) -> Targets {
 impl Drop for Log {
     fn drop(&mut self) {
         if let Some(queue) = &self.0 {
-            queue.finish(LAST_WRITES);
+            queue.finish(LAST_LINES_WAIT);
         }
     }
 }
@@ -98,7 +98,7 @@ impl Queue {
                 return;
             }
             order = refused;
-            thread::sleep(PAUSE);
+            thread::sleep(FULL_QUEUE_PAUSE);
         }
         let _ = answer.recv_timeout(end.saturating_duration_since(Instant::now()));
     }

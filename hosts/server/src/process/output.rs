@@ -37,6 +37,11 @@ pub fn cause(error: &StoreError) -> String {
     error.source().map_or_else(|| error.to_string(), ToString::to_string)
 }
 
+/// The numbers of clients, as `3, 5, 7`.
+pub fn numbers(clients: &[u8]) -> String {
+    clients.iter().map(u8::to_string).collect::<Vec<_>>().join(", ")
+}
+
 impl NotPrinted {
     /// Of a command that has nothing else to do.
     pub fn before_work(error: io::Error) -> NotPrinted {

@@ -2,8 +2,10 @@
 use krl::Monitor;
 use krl::operate::Liveness;
 use std::fmt;
+use std::io;
 use std::sync::{Arc, Mutex, MutexGuard, PoisonError};
-use std::time::{SystemTime, UNIX_EPOCH};
+use std::thread;
+use std::time::{Duration, SystemTime, UNIX_EPOCH};
 
 /// What the process does, as its status port shows it.
 #[derive(Clone, Debug, Default)]
@@ -41,6 +43,23 @@ impl Role {
     /// It no longer serves, and does not know who does.
     pub fn ends(&self) {
         *self.lock() = State::Starts;
+    }
+
+    /// Has a thread of its own look at the state again and again, with this pause after each look.
+    pub fn watch(
+        self,
+        name: &str,
+        pause: Duration,
+        mut look: impl FnMut(State) + Send + 'static,
+    ) -> io::Result<()> {
+        let looks = move || {
+            loop {
+                look(self.state());
+                thread::sleep(pause);
+            }
+        };
+        thread::Builder::new().name(name.to_string()).spawn(looks)?;
+        Ok(())
     }
 
     fn lock(&self) -> MutexGuard<'_, State> {

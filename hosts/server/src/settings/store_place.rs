@@ -1,8 +1,8 @@
 //! Where a store is, as it is written and read.
 use super::key;
 use clap::builder::ValueParserFactory;
-use krl_etcd::{BadEtcdAddress, EtcdAddress};
-use krl_postgres::{BadPostgresAddress, PostgresAddress, UrlWord};
+use krl_etcd::EtcdAddress;
+use krl_postgres::{PostgresAddress, UrlWord};
 use std::fmt;
 use std::path::PathBuf;
 use std::str::FromStr;
@@ -18,33 +18,24 @@ pub enum StorePlace {
     Postgres(PostgresAddress),
 }
 
-/// Why a text names no store. None of these shows a password.
-#[derive(Clone, Debug, PartialEq, Eq)]
-pub enum BadStorePlace {
-    /// It is empty, or a URL of something else.
-    Form,
-    /// It is no URL of etcd.
-    Etcd(BadEtcdAddress),
-    /// It is no URL of PostgreSQL, for this reason.
-    Postgres(BadPostgresAddress),
-}
-
 impl FromStr for StorePlace {
-    type Err = BadStorePlace;
+    /// A sentence for the operator, which shows no password.
+    type Err = String;
 
-    fn from_str(text: &str) -> Result<StorePlace, BadStorePlace> {
+    fn from_str(text: &str) -> Result<StorePlace, String> {
+        let is_word = |scheme: &str| scheme.bytes().all(|byte| byte.is_ascii_alphanumeric());
         match text.split_once("://") {
             Some(("etcd" | "etcds", _)) => {
-                text.parse().map(StorePlace::Etcd).map_err(BadStorePlace::Etcd)
+                let address = text.parse::<EtcdAddress>();
+                address.map(StorePlace::Etcd).map_err(|bad| bad.to_string())
             }
             Some(("postgres" | "postgresql", _)) => {
-                text.parse().map(StorePlace::Postgres).map_err(BadStorePlace::Postgres)
+                let address = text.parse::<PostgresAddress>();
+                address.map(StorePlace::Postgres).map_err(|bad| bad.for_operators())
             }
-            Some((scheme, _)) if scheme.bytes().all(|byte| byte.is_ascii_alphanumeric()) => {
-                Err(BadStorePlace::Form)
-            }
-            _ if text.is_empty() => Err(BadStorePlace::Form),
-            _ => Ok(StorePlace::File(text.into())),
+            None if !text.is_empty() => Ok(StorePlace::File(text.into())),
+            Some((scheme, _)) if !is_word(scheme) => Ok(StorePlace::File(text.into())),
+            _ => Err(format!("it has to be {}", key::STORE.expected)),
         }
     }
 }
@@ -63,16 +54,6 @@ impl fmt::Display for StorePlace {
             StorePlace::File(path) => path.display().fmt(f),
             StorePlace::Etcd(address) => address.fmt(f),
             StorePlace::Postgres(address) => address.fmt(f),
-        }
-    }
-}
-
-impl fmt::Display for BadStorePlace {
-    fn fmt(&self, f: &mut fmt::Formatter<'_>) -> fmt::Result {
-        match self {
-            BadStorePlace::Form => write!(f, "it has to be {}", key::STORE.expected),
-            BadStorePlace::Etcd(bad) => bad.fmt(f),
-            BadStorePlace::Postgres(bad) => f.write_str(&bad.for_operators()),
         }
     }
 }
@@ -104,7 +85,7 @@ mod tests {
             ("postgres:///krl", "names no host"),
             ("postgres://krl@127.0.0.1/krl?nothing=1", "unknown option `nothing`"),
         ] {
-            let message = text.parse::<StorePlace>().unwrap_err().to_string();
+            let message = text.parse::<StorePlace>().unwrap_err();
             assert!(message.contains(why) && !message.contains("secret"), "{text}: {message}");
         }
     }

@@ -1,6 +1,7 @@
 //! One request to a status port.
 use super::paths::JSON;
 use super::tls_stream;
+use crate::process::Done;
 use crate::settings::StatusPort;
 use hyper::body::HttpBody;
 use hyper::client::conn;
@@ -45,22 +46,12 @@ impl Reply {
 }
 
 /// Asks for a page, and returns its text.
-pub fn page(
-    port: &StatusPort,
-    path: &str,
-    accept: &str,
-    wait: Duration,
-) -> Result<String, Box<dyn Error>> {
+pub fn page(port: &StatusPort, path: &str, accept: &str, wait: Duration) -> Done<String> {
     Ok(get(port, path, accept, wait)?.page_of(port)?)
 }
 
 /// Asks for a page.
-pub fn get(
-    port: &StatusPort,
-    path: &str,
-    accept: &str,
-    wait: Duration,
-) -> Result<Reply, Box<dyn Error>> {
+pub fn get(port: &StatusPort, path: &str, accept: &str, wait: Duration) -> Done<Reply> {
     Ok(runtime()?.block_on(fetch(port, path, accept, wait))?)
 }
 
@@ -77,12 +68,7 @@ pub async fn fetch(
 }
 
 /// Sends JSON to a path.
-pub fn post(
-    port: &StatusPort,
-    path: &str,
-    json: String,
-    wait: Duration,
-) -> Result<Reply, Box<dyn Error>> {
+pub fn post(port: &StatusPort, path: &str, json: String, wait: Duration) -> Done<Reply> {
     let request = Request::builder().method(Method::POST).uri(path).header(HOST, NAMED_HOST);
     let request = request.header(CONTENT_TYPE, JSON).body(json.into())?;
     Ok(runtime()?.block_on(answered(port, request, wait))?)

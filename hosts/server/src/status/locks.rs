@@ -1,16 +1,21 @@
 //! Who holds what: the question, and its answer as text and as JSON.
 use super::paths::LOCKS;
+use crate::process::output::numbers;
 use form_urlencoded::parse;
 use krl::operate::Locks;
 use krl::{END, HeldSlot, Wait};
 use serde_json::json;
 use std::ops::{Range, RangeInclusive};
+use std::time::Duration;
 
 /// The most slots that are reported by default.
 pub const LIMIT: usize = 1000;
 
 /// The limits that may be asked for.
 const LIMITS: RangeInclusive<usize> = 64..=10_000;
+
+/// A wait of this length is long.
+pub const LONG_WAIT: Duration = Duration::from_secs(10);
 
 /// One past the last point.
 pub const TOP: u64 = END + 1;
@@ -132,17 +137,13 @@ fn waiting(wait: &Wait) -> String {
 
 /// The clients that this one waits for, in words.
 pub fn whom(wait: &Wait) -> String {
-    match wait.waits_for.as_slice() {
-        [] => "nobody".to_string(),
-        some => some.iter().map(u8::to_string).collect::<Vec<_>>().join(", "),
-    }
+    if wait.waits_for.is_empty() { "nobody".to_string() } else { numbers(&wait.waits_for) }
 }
 
 #[cfg(test)]
 mod tests {
     use super::*;
     use krl::Mode;
-    use std::time::Duration;
 
     fn question(points: Range<u64>, limit: usize) -> Question {
         Question { points, limit }
@@ -190,13 +191,6 @@ mod tests {
         locks
     }
 
-    /// The same, and there are more.
-    fn locks_in_part() -> Locks {
-        let mut locks = locks();
-        locks.next = Some(7);
-        locks
-    }
-
     #[test]
     fn text() {
         let question = question(0..20, 64);
@@ -205,21 +199,11 @@ mod tests {
                      \x20                11 9223372036854775808 X             2\n\
                      client 3 waits for 1, 2: RangeX-X from 10 below 20, for 40 ms\n";
         assert_eq!(question.as_text(&locks()), whole);
-        let mut part = locks_in_part();
-        part.is_of_one_moment = false;
+        let mut part = locks();
+        (part.next, part.is_of_one_moment) = (Some(7), false);
         let part = question.as_text(&part);
         let notes = part.strip_prefix(whole).unwrap();
         assert!(notes.contains("not of one moment\n"), "{notes}");
         assert!(notes.ends_with("there are more from 7 on: ask for 7 to 20\n"), "{notes}");
-    }
-
-    #[test]
-    fn json() {
-        let text = question(0..20, 64).as_json(&locks_in_part());
-        let value: serde_json::Value = serde_json::from_str(&text).unwrap();
-        assert_eq!(value["locks"][1], json!({ "lo": 11, "hi": null, "mode": "X", "client": 2 }));
-        assert_eq!(value["waits"][0]["hi"], 20);
-        assert_eq!((&value["next"], &value["is_of_one_moment"]), (&json!(7), &json!(true)));
-        assert_eq!((&value["lo"], &value["hi"]), (&json!(0), &json!(20)));
     }
 }

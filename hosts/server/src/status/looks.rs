@@ -15,7 +15,7 @@ use tokio::sync::Notify;
 use tokio::time::timeout;
 
 /// The time from one look to the next, if there is time for it.
-const PACE: Duration = Duration::from_millis(500);
+const LOOK_PERIOD: Duration = Duration::from_millis(500);
 
 /// How many clients a server may have.
 const CLIENTS: usize = 64;
@@ -24,16 +24,16 @@ const CLIENTS: usize = 64;
 const SHARE: u32 = 125;
 
 /// The most bars of a picture.
-const MOST: usize = 1000;
+const MAX_BARS: usize = 1000;
 
 /// The most ranges that are looked at.
-const MOST_VIEWS: usize = 8;
+const MAX_VIEWS: usize = 8;
 
 /// A range for which nobody has asked for this long is no longer looked at.
 const FORGOTTEN: Duration = Duration::from_secs(10);
 
 /// How long the first viewers wait for a look to be complete.
-const FIRST: Duration = Duration::from_secs(1);
+const FIRST_LOOK_WAIT: Duration = Duration::from_secs(1);
 
 /// The looks of a process at its server.
 #[derive(Clone, Debug, Default)]
@@ -137,7 +137,7 @@ impl Looks {
                 }
                 Work::Look { monitor, mut search, epoch, points } => {
                     let page = search.go_on(&monitor);
-                    let took = page.as_ref().map_or(PACE / SHARE, |page| page.took);
+                    let took = page.as_ref().map_or(LOOK_PERIOD / SHARE, |page| page.took);
                     self.lock().take(epoch, &points, search, page, Instant::now());
                     took
                 }
@@ -175,7 +175,7 @@ impl Views {
             return;
         }
         self.views.sort_by_key(|view| std::cmp::Reverse(view.asked));
-        self.views.truncate(MOST_VIEWS - 1);
+        self.views.truncate(MAX_VIEWS - 1);
         self.views.push(View {
             monitor: monitor.clone(),
             epoch,
@@ -234,7 +234,7 @@ impl Views {
     fn shows(&mut self, epoch: u64, points: &Range<u64>, now: Instant) -> bool {
         self.view(epoch, points).is_none_or(|view| {
             let age = now.saturating_duration_since(view.asked_first);
-            view.is_whole() || view.failure.is_some() || age >= FIRST
+            view.is_whole() || view.failure.is_some() || age >= FIRST_LOOK_WAIT
         })
     }
 
@@ -251,7 +251,7 @@ impl View {
     /// For how long nothing has to be done for it.
     fn rest(&self, now: Instant) -> Duration {
         match (self.began, &self.search) {
-            (Some(began), None) => PACE.saturating_sub(now.saturating_duration_since(began)),
+            (Some(began), None) => LOOK_PERIOD.saturating_sub(now.saturating_duration_since(began)),
             _ => Duration::ZERO,
         }
     }
@@ -261,14 +261,14 @@ impl View {
         let Range { start, end } = self.points;
         let search = self.search.take().or_else(|| {
             self.began = Some(now);
-            HeldSearch::new(start..end, MOST + 1).ok()
+            HeldSearch::new(start..end, MAX_BARS + 1).ok()
         });
         match search {
             Some(search) => {
                 let (monitor, points) = (self.monitor.clone(), self.points.clone());
                 Work::Look { monitor, search, epoch: self.epoch, points }
             }
-            None => Work::Rest(PACE),
+            None => Work::Rest(LOOK_PERIOD),
         }
     }
 
@@ -280,7 +280,7 @@ impl View {
     fn held(&self, now: Instant) -> Held {
         let oldest = self.seen.values().map(|seen| seen.at).min().filter(|_| self.is_whole());
         let mut runs: Vec<_> = self.seen.values().flat_map(|seen| &seen.runs).copied().collect();
-        let next = cut(&mut runs, MOST);
+        let next = cut(&mut runs, MAX_BARS);
         let age = oldest.map(|oldest| now.saturating_duration_since(oldest));
         Held { runs, next, seen: self.seen.keys().copied().collect(), age }
     }

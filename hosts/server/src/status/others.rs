@@ -14,16 +14,16 @@ use std::time::{Duration, Instant};
 use tokio::time::{sleep, timeout};
 
 /// The time between two requests to a server.
-const PACE: Duration = Duration::from_secs(1);
+const ASK_PERIOD: Duration = Duration::from_secs(1);
 
 /// How long a server may take to answer.
-const WAIT: Duration = Duration::from_secs(3);
+const PEER_WAIT: Duration = Duration::from_secs(3);
 
 /// How long a page waits for servers that have never answered.
-const FIRST: Duration = Duration::from_millis(500);
+const FIRST_ANSWERS_WAIT: Duration = Duration::from_millis(500);
 
 /// How often a page that waits looks whether they have answered.
-const LOOKS: Duration = Duration::from_millis(10);
+const ANSWERS_PERIOD: Duration = Duration::from_millis(10);
 
 /// The other servers, and what each has answered last.
 #[derive(Clone, Debug, Default)]
@@ -127,7 +127,7 @@ impl Others {
     /// What they have answered last. Those that have not been asked for a second are asked again.
     pub async fn look(&self) -> Vec<Other> {
         self.ask(Instant::now());
-        let _ = timeout(FIRST, self.all_have_answered()).await;
+        let _ = timeout(FIRST_ANSWERS_WAIT, self.all_have_answered()).await;
         let seen = self.lock();
         let others = self.0.ports.iter().zip(seen.iter());
         others.map(|(port, seen)| Other { url: port.url(), answer: seen.answer.clone() }).collect()
@@ -135,7 +135,7 @@ impl Others {
 
     async fn all_have_answered(&self) {
         while self.lock().iter().any(|seen| seen.answer.is_none()) {
-            sleep(LOOKS).await;
+            sleep(ANSWERS_PERIOD).await;
         }
     }
 
@@ -162,13 +162,13 @@ impl Others {
 
 impl Seen {
     fn is_due(&self, now: Instant) -> bool {
-        let is_old = |asked| now.saturating_duration_since(asked) >= PACE;
+        let is_old = |asked| now.saturating_duration_since(asked) >= ASK_PERIOD;
         !self.is_asked && self.asked.is_none_or(is_old)
     }
 }
 
 async fn ask(port: &StatusPort) -> Answer {
-    let reply = http::fetch(port, STATUS_AS_JSON, JSON, WAIT).await?;
+    let reply = http::fetch(port, STATUS_AS_JSON, JSON, PEER_WAIT).await?;
     let text = reply.page_of(port)?;
     report_of(&text).map_err(|error| format!("{port} is not a status port of krl: {error}"))
 }
@@ -187,9 +187,9 @@ mod tests {
         let mut seen = Seen::default();
         assert!(seen.is_due(now));
         (seen.asked, seen.is_asked) = (Some(now), true);
-        assert!(!seen.is_due(now + PACE));
+        assert!(!seen.is_due(now + ASK_PERIOD));
         seen.is_asked = false;
-        assert!(!seen.is_due(now + PACE / 2) && seen.is_due(now + PACE));
+        assert!(!seen.is_due(now + ASK_PERIOD / 2) && seen.is_due(now + ASK_PERIOD));
     }
 
     #[test]

@@ -8,6 +8,7 @@ use super::recent::Rates;
 use super::shown::Shown;
 use super::visitors::Visit;
 use super::{clients, others, page};
+use crate::process::output::numbers;
 use crate::process::role::State;
 use hyper::header::{ACCEPT, ALLOW, CONTENT_TYPE};
 use hyper::{Body, Method, Request, Response, StatusCode};
@@ -22,7 +23,7 @@ use tokio::time::timeout;
 const MAX_ORDER: u64 = 1 << 16;
 
 /// How long an order may take to come after its head.
-const BODY: Duration = Duration::from_secs(5);
+const ORDER_WAIT: Duration = Duration::from_secs(5);
 
 /// A page and its status.
 #[derive(Debug, PartialEq, Eq)]
@@ -195,7 +196,7 @@ fn readiness(status: &Status) -> Page {
     if status.is_serving {
         return Page::text(StatusCode::OK, "serving\n");
     }
-    let missing = status.missing.iter().map(u8::to_string).collect::<Vec<_>>().join(", ");
+    let missing = numbers(&status.missing);
     let why = match &status.failure {
         Some(failure) => format!("failed: {failure}\n"),
         None if missing.is_empty() => "starting\n".to_string(),
@@ -332,9 +333,9 @@ async fn body(request: Request<Body>) -> Result<hyper::body::Bytes, Page> {
         let text = format!("an order has at most {MAX_ORDER} bytes, and states how many\n");
         return Err(Page::text(StatusCode::PAYLOAD_TOO_LARGE, text));
     }
-    let bytes = timeout(BODY, hyper::body::to_bytes(request.into_body()));
+    let bytes = timeout(ORDER_WAIT, hyper::body::to_bytes(request.into_body()));
     let bytes = bytes.await.map_err(|_| {
-        let text = format!("the order has to come within {BODY:?} after its head\n");
+        let text = format!("the order has to come within {ORDER_WAIT:?} after its head\n");
         Page::text(StatusCode::REQUEST_TIMEOUT, text)
     })?;
     bytes.map_err(|error| Page::text(StatusCode::BAD_REQUEST, format!("{error}\n")))

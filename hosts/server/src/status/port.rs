@@ -25,22 +25,22 @@ use tokio::sync::Notify;
 use tokio::time::{sleep, timeout};
 
 /// How long a peer may take to send the whole head of its request.
-const HEAD: Duration = Duration::from_secs(5);
+const HEAD_WAIT: Duration = Duration::from_secs(5);
 
 /// The most bytes of a head.
 const MAX_HEAD: usize = 1 << 14;
 
 /// How long a handshake may take.
-const HANDSHAKE: Duration = Duration::from_secs(5);
+const HANDSHAKE_WAIT: Duration = Duration::from_secs(5);
 
 /// How long a connection may take from its request on, unless its order is carried out.
-const WHOLE: Duration = Duration::from_secs(90);
+const ANSWER_WAIT: Duration = Duration::from_secs(90);
 
 /// How long the last bytes of an answer may take to leave.
-const LAST_WRITES: Duration = Duration::from_secs(5);
+const LAST_BYTES_WAIT: Duration = Duration::from_secs(5);
 
 /// How long to wait before the next try when the system has no room for another connection.
-const PAUSE: Duration = Duration::from_millis(50);
+const ACCEPT_PAUSE: Duration = Duration::from_millis(50);
 
 /// Serves the pages at the address, and returns where it listens. At an address of TLS it shows
 /// this, and serves only operators.
@@ -91,7 +91,7 @@ async fn serve(listener: TcpListener, tls: Option<TlsConfig>, shown: Shown) -> i
     let refused = Arc::new(Mutex::new(RateLimit::default()));
     loop {
         let Ok((stream, peer)) = listener.accept().await else {
-            sleep(PAUSE).await;
+            sleep(ACCEPT_PAUSE).await;
             continue;
         };
         let visit = Arc::new(visitors.accept(peer.ip(), Instant::now()));
@@ -105,7 +105,7 @@ async fn serve(listener: TcpListener, tls: Option<TlsConfig>, shown: Shown) -> i
 async fn sample(shown: Shown) {
     loop {
         shown.recent.look(&shown.role.state(), Instant::now());
-        sleep(recent::LOOKS).await;
+        sleep(recent::RECENT_PERIOD).await;
     }
 }
 
@@ -146,7 +146,7 @@ async fn answer_operator(
 ) {
     let Ok(session) = PeerCheck::of_client(tls) else { return };
     let address = guest.peer;
-    let why = match timeout(HANDSHAKE, tls_stream::shake(stream, session)).await {
+    let why = match timeout(HANDSHAKE_WAIT, tls_stream::shake(stream, session)).await {
         Ok(Ok((stream, peer))) => {
             if !peer.is_operator() {
                 log_refused(address, &format!("{peer} is not an operator"), refused);
@@ -176,14 +176,14 @@ async fn end(mut stream: impl AsyncRead + AsyncWrite + Unpin) {
         stream.shutdown().await?;
         tokio::io::copy(&mut stream, &mut tokio::io::sink()).await
     };
-    let _ = timeout(LAST_WRITES, ends).await;
+    let _ = timeout(LAST_BYTES_WAIT, ends).await;
 }
 
 /// Answers a peer that has shown a certificate, and not an operator's, that it is refused.
 async fn refuse(stream: impl AsyncRead + AsyncWrite + Unpin + Send + 'static, peer: Identity) {
     let answer = service_fn(|_| ready(Ok::<_, Infallible>(pages::refused(peer))));
     let served = http().serve_connection(stream, answer).without_shutdown();
-    if let Ok(Ok(parts)) = timeout(HEAD, served).await {
+    if let Ok(Ok(parts)) = timeout(HEAD_WAIT, served).await {
         end(parts.io).await;
     }
 }
@@ -208,8 +208,8 @@ async fn answer(stream: impl AsyncRead + AsyncWrite + Unpin + Send + 'static, gu
     // A peer that asks and goes away, or takes too long, gets no answer.
     let answered = tokio::select! {
         answered = &mut served => Ok(answered),
-        () = sleep(HEAD) => return,
-        () = has_asked.notified() => timeout(WHOLE, &mut served).await,
+        () = sleep(HEAD_WAIT) => return,
+        () = has_asked.notified() => timeout(ANSWER_WAIT, &mut served).await,
     };
     let answered = match answered {
         Err(_) if visit.is_ordering() => timeout(backup::TIMEOUT, served).await,

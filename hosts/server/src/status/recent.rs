@@ -11,16 +11,16 @@ use std::sync::{Arc, Mutex, MutexGuard, PoisonError};
 use std::time::{Duration, Instant};
 
 /// How often [`Recent::look`] is to be called.
-pub const LOOKS: Duration = Duration::from_secs(1);
+pub const RECENT_PERIOD: Duration = Duration::from_secs(1);
 
 /// How long samples lie apart.
-const APART: Duration = Duration::from_secs(5);
+const SAMPLE_PERIOD: Duration = Duration::from_secs(5);
 
 /// Rates are those of a time of this length, or a little longer.
-const RATES: Duration = Duration::from_secs(10);
+const RATES_OVER: Duration = Duration::from_secs(10);
 
 /// The histograms are those of a time of this length at most.
-const MINUTES: Duration = Duration::from_secs(300);
+const HISTOGRAMS_OVER: Duration = Duration::from_secs(300);
 
 /// The samples of the server that serves.
 #[derive(Clone, Debug, Default)]
@@ -74,7 +74,7 @@ impl Recent {
     }
 
     fn sample(&self, monitor: &Monitor, now: Instant) {
-        let is_due = |last: &Sample| now.saturating_duration_since(last.at) >= APART;
+        let is_due = |last: &Sample| now.saturating_duration_since(last.at) >= SAMPLE_PERIOD;
         if self.lock().back().is_none_or(is_due) {
             self.take(Sample::of(monitor, &monitor.status(), now));
         }
@@ -84,7 +84,7 @@ impl Recent {
         let mut samples = self.lock();
         let now = sample.at;
         samples.retain(|it| {
-            it.epoch == sample.epoch && now.saturating_duration_since(it.at) <= MINUTES
+            it.epoch == sample.epoch && now.saturating_duration_since(it.at) <= HISTOGRAMS_OVER
         });
         samples.push_back(sample);
     }
@@ -92,10 +92,10 @@ impl Recent {
     /// The rates of a server that has this status now, if there is an older sample of it.
     pub fn rates(&self, status: &Status, now: Instant) -> Option<Rates> {
         let samples = self.lock();
-        let is_old = |it: &&Sample| now.saturating_duration_since(it.at) >= RATES;
+        let is_old = |it: &&Sample| now.saturating_duration_since(it.at) >= RATES_OVER;
         let base = samples.iter().rev().find(is_old).or(samples.front())?;
         let over = now.saturating_duration_since(base.at);
-        if base.epoch != status.epoch || over < LOOKS {
+        if base.epoch != status.epoch || over < RECENT_PERIOD {
             return None;
         }
         Some(Counted::of(status).since(base.counted, over))

@@ -10,11 +10,11 @@
 //!
 //! **So no server can start on the new store while one can start on another store that has its
 //! rows.** Each step may be cut off: the same call continues from what the stores show.
+use crate::commands::stores;
+use crate::process::Done;
 use krl::{Change, KeptShard, Mark, ShardBounds, Snapshot, Store, StoreError};
 use std::error::Error;
 use std::fmt;
-
-type Done<T = ()> = Result<T, Box<dyn Error>>;
 
 /// A start by which an old store has changed has committed this many batches: itself, and the change.
 const BATCHES_OF_A_CHANGE: u64 = 2;
@@ -159,13 +159,10 @@ impl<'s, 'p, P: Place> Taken<'s, 'p, P> {
             return Err(other_shard(old, snapshot.shard).into());
         }
         let taken = Taken { old, opened, snapshot };
-        let clients = taken.snapshot.present();
-        if taken.has_changed() || clients.is_empty() {
-            return Ok(taken);
+        match stores::who_has_not_left(old.place, &taken.snapshot) {
+            Some(who) if !taken.has_changed() => Err(InUse(who).into()),
+            _ => Ok(taken),
         }
-        let clients: Vec<String> = clients.iter().map(u8::to_string).collect();
-        let who = format!("{} has clients that have not left: {}", old.place, clients.join(", "));
-        Err(InUse(who).into())
     }
 
     fn has_changed(&self) -> bool {

@@ -2,14 +2,12 @@
 use super::change::NewStore;
 use super::stores;
 use super::words::LiveOptions;
+use crate::process::Done;
 use crate::process::replaced_file::beside;
 use crate::settings::StorePlace;
-use std::error::Error;
 use std::fs::{self, File};
 use std::path::Path;
 use std::process::{Command, Stdio};
-
-type Done<T = ()> = Result<T, Box<dyn Error>>;
 
 /// Refuses a change whose commands are not there, or whose new store can't be made.
 pub fn refuse(live: &LiveOptions, new: &NewStore<'_, StorePlace>) -> Done {

@@ -1,8 +1,9 @@
 //! The stores whose shards change, and the new one, as the command finds them.
 use super::change::{self, NewStore, OldStore, Place};
-use super::{LOOK, START_OR_END};
+use super::{POLL_PERIOD, START_OR_END};
 use crate::commands::{ask, stores};
 use crate::daemon::owner::{self, Owner};
+use crate::process::Done;
 use crate::process::output::{self, cause};
 use crate::settings::{StatusPort, StorePlace, credentials};
 use crate::status::http;
@@ -10,17 +11,14 @@ use crate::status::paths::{JSON, STATUS};
 use krl::{KeptShard, ShardBounds, Snapshot, SqliteStore, Store, StoreError};
 use krl_etcd::EtcdStore;
 use krl_postgres::PostgresStore;
-use std::error::Error;
 use std::thread;
 use std::time::{Duration, Instant};
 
-type Done<T = ()> = Result<T, Box<dyn Error>>;
-
 /// How long the server of a store may give no answer.
-const ANSWER: Duration = Duration::from_secs(10);
+const SERVER_WAIT: Duration = Duration::from_secs(10);
 
 /// How long a command waits for a database to commit what a shard loses: all rows of a store at most.
-const COMMIT: Duration = Duration::from_secs(120);
+const COMMIT_WAIT: Duration = Duration::from_secs(120);
 
 /// The stores of a change.
 pub struct Stores<'c> {
@@ -96,14 +94,14 @@ impl Stores<'_> {
                 return Ok(shard.map(KeptShard::open));
             }
             answers |= status.is_some();
-            if begun.elapsed() >= if answers { START_OR_END } else { ANSWER } {
+            if begun.elapsed() >= if answers { START_OR_END } else { SERVER_WAIT } {
                 let what = if answers { "does not serve" } else { "gives no answer" };
                 return Err(format!(
                     "{store} is used by {by}, and {port} {what}: is it its status port?"
                 )
                 .into());
             }
-            thread::sleep(LOOK);
+            thread::sleep(POLL_PERIOD);
         }
         shard_of(store)
     }
@@ -130,7 +128,7 @@ impl Stores<'_> {
 
 /// What a page of a server shows, if it answers.
 pub fn json(port: &StatusPort, path: &str) -> Option<serde_json::Value> {
-    serde_json::from_str(&http::page(port, path, JSON, ask::WAIT).ok()?).ok()
+    serde_json::from_str(&http::page(port, path, JSON, ask::COMMAND_WAIT).ok()?).ok()
 }
 
 /// Which shard a store is of that no server serves, or that shows it also then.
@@ -164,22 +162,21 @@ impl Place for StorePlace {
     type Opened = OpenStore;
 
     fn open(&self) -> Done<OpenStore> {
-        let (store, owner): (Result<Box<dyn Store>, StoreError>, _) = match self {
+        let fails = |error: StoreError| format!("{self}: {}", cause(&error));
+        let (store, owner): (Box<dyn Store>, _) = match self {
             StorePlace::File(path) => {
                 let owner = stores::own(path)?;
-                let store = SqliteStore::open(owner.file());
-                (store.map(|store| Box::new(store) as _), Some(owner))
+                (Box::new(SqliteStore::open(owner.file()).map_err(fails)?), Some(owner))
             }
             StorePlace::Etcd(address) => {
                 let store = EtcdStore::open(address, &credentials::of_environment());
-                (store.map(|store| Box::new(store.with_commit_timeout(COMMIT)) as _), None)
+                (Box::new(store.map_err(fails)?.with_commit_timeout(COMMIT_WAIT)), None)
             }
             StorePlace::Postgres(address) => {
                 let store = PostgresStore::open(address, credentials::user().as_ref());
-                (store.map(|store| Box::new(store.with_commit_timeout(COMMIT)) as _), None)
+                (Box::new(store.map_err(fails)?.with_commit_timeout(COMMIT_WAIT)), None)
             }
         };
-        let store = store.map_err(|error| format!("{self}: {}", cause(&error)))?;
         Ok(OpenStore { store, _owner: owner })
     }
 

@@ -57,7 +57,7 @@ fn the_next_map_is_published_once_however_often_it_is_asked_for() {
     let expected = split(&first).unwrap();
     for times in 1..3 {
         let published = published(&path, Some(&count), "split");
-        assert_eq!((published.before(), published.next()), (&first, &expected));
+        assert_eq!((&published.change.before, &published.change.next), (&first, &expected));
         assert_eq!(ShardMap::from_file(&path).unwrap(), expected);
         assert_eq!(fs::read_to_string(&counted).unwrap(), expected.to_toml().repeat(times));
     }
@@ -75,7 +75,7 @@ fn a_map_that_cannot_be_published_stays_what_it_was() {
     drop(published);
     // Somebody may have the maps of versions 4 and 5.
     let published = self::published(&path, None, "split");
-    assert_eq!(published.next().version().unwrap().get(), 6);
+    assert_eq!(published.change.next.version().unwrap().get(), 6);
 }
 
 #[test]
@@ -90,8 +90,8 @@ fn what_is_taken_back_is_known_by_its_own_versions_and_may_be_asked_for_again() 
         assert_eq!(now.bounds_of(shard), first.bounds_of(shard));
     }
     let again = change(&path, None, "split").unwrap();
-    assert_eq!((again.before(), again.next().version().unwrap().get()), (&now, 6));
-    assert_eq!(again.next().bounds_of(1).unwrap().to_string(), "50..100@6");
+    assert_eq!((&again.change.before, again.change.next.version().unwrap().get()), (&now, 6));
+    assert_eq!(again.change.next.bounds_of(1).unwrap().to_string(), "50..100@6");
 }
 
 #[test]
@@ -104,13 +104,16 @@ fn a_change_that_was_cut_off_is_continued_whatever_ran_since() {
     let why = refused(change(&path, None, "cut"));
     assert!(why.contains("repeat 'krl-server reshard split'"), "{why}");
     let mut continued = change(&path, None, "split").unwrap();
-    assert_eq!((continued.before(), continued.next()), (&first, &split(&first).unwrap()));
+    assert_eq!(
+        (&continued.change.before, &continued.change.next),
+        (&first, &split(&first).unwrap())
+    );
     continued.publish().unwrap();
     assert_eq!(continued.end().unwrap().get(), 5);
     drop(continued);
     assert_eq!(bounds(&path), ["0..50@4", "50..100@4", "100..@5"]);
     // It has ended.
-    assert_eq!(change(&path, None, "cut").unwrap().next().version().unwrap().get(), 6);
+    assert_eq!(change(&path, None, "cut").unwrap().change.next.version().unwrap().get(), 6);
     let undone = MapFile::lock(&path, None, "split".into()).unwrap().begun();
     assert!(refused(undone).contains("nothing is to be taken back"));
 }
@@ -157,14 +160,14 @@ fn a_change_of_which_the_map_has_nothing_is_begun_again_by_a_later_version() {
     // It was noted, and the next map was lost with the power, or was cut off.
     fs::write(&path, first.to_toml()).unwrap();
     let again = change(&path, None, "split").unwrap();
-    assert_eq!(again.next(), &split(&first).unwrap());
+    assert_eq!(&again.change.next, &split(&first).unwrap());
     drop(again);
     let other = published(&path, None, "cut");
-    assert_eq!(other.next().version().unwrap().get(), 5);
+    assert_eq!(other.change.next.version().unwrap().get(), 5);
     drop(other);
     fs::write(&path, first.to_toml()).unwrap();
     let again = change(&path, None, "split").unwrap();
-    assert_eq!(again.next().bounds_of(1).unwrap().to_string(), "50..100@6");
+    assert_eq!(again.change.next.bounds_of(1).unwrap().to_string(), "50..100@6");
 }
 
 #[test]
@@ -182,7 +185,10 @@ fn a_map_that_comes_late_from_its_home_has_its_note() {
     }
     fs::write(&path, split(&first).unwrap().to_toml()).unwrap();
     let continued = change(&path, None, "split").unwrap();
-    assert_eq!((continued.before(), continued.next()), (&first, &split(&first).unwrap()));
+    assert_eq!(
+        (&continued.change.before, &continued.change.next),
+        (&first, &split(&first).unwrap())
+    );
     drop(continued);
     assert!(refused(change(&path, None, "cut")).contains("repeat 'krl-server reshard split'"));
     // By now the file has a later map than all that were given away.

@@ -48,13 +48,15 @@ fn a_look_continues_until_it_is_whole_and_then_rests() {
     let held = views.held(1, &(0..9), after(20)).unwrap();
     assert_eq!((held.runs.len(), held.age), (3, None), "it is not whole");
     assert_eq!(held.seen, [0, 1, 2]);
-    assert!(!views.shows(1, &(0..9), after(20)) && views.shows(1, &(0..9), start + FIRST));
+    assert!(
+        !views.shows(1, &(0..9), after(20)) && views.shows(1, &(0..9), start + FIRST_LOOK_WAIT)
+    );
     assert_eq!(looks_at(views.next(after(30))), 9);
     views.take(1, &(0..9), done.clone(), Ok(page(3..64)), after(40));
     assert!(views.shows(1, &(0..9), after(40)));
     let held = views.held(1, &(0..9), after(100)).unwrap();
     assert_eq!((held.runs.len(), held.age), (64, Some(Duration::from_millis(90))));
-    assert!(matches!(views.next(after(100)), Some(Work::Rest(time)) if time < PACE));
+    assert!(matches!(views.next(after(100)), Some(Work::Rest(time)) if time < LOOK_PERIOD));
     // The next look begins, and what was seen before is shown until it is seen again.
     assert_eq!(looks_at(views.next(after(500))), 9);
     views.take(1, &(0..9), done, Ok(page(0..1)), after(510));
@@ -78,7 +80,7 @@ fn ranges_take_turns_and_are_forgotten() {
     for end in 1..20 {
         views.ask(&server.monitor(), 1, &(0..end), start + Duration::from_secs(end));
     }
-    assert_eq!(views.views.len(), MOST_VIEWS);
+    assert_eq!(views.views.len(), MAX_VIEWS);
     assert!(views.view(1, &(0..19)).is_some() && views.view(1, &(0..1)).is_none());
 }
 

@@ -29,7 +29,7 @@ pub struct Overview<'a> {
 }
 
 /// Looks older than this are marked as old.
-const OLD: Duration = Duration::from_secs(2);
+const OLD_LOOK: Duration = Duration::from_secs(2);
 
 pub const STYLE: &str = concat!(include_str!("overview.css"), include_str!("picture.css"));
 pub const SCRIPT: &str = include_str!("overview.js");
@@ -152,7 +152,7 @@ impl Overview<'_> {
         }
         part.add(format_args!("</nav>"));
         let age = match held.age {
-            Some(age) if age < OLD => return,
+            Some(age) if age < OLD_LOOK => return,
             Some(age) => format!("This was seen up to {} ago", brief(age)),
             None => "Not all of this was seen yet".to_string(),
         };

@@ -4,8 +4,8 @@ use super::held_picture;
 use super::markup::{Markup, escape, list, number};
 use super::modes;
 use crate::status::clients::brief;
+use crate::status::locks::LONG_WAIT;
 use krl::Wait;
-use std::time::Duration;
 
 const WIDTH: f64 = 520.0;
 const ROW: f64 = 36.0;
@@ -19,10 +19,7 @@ const ARROW: (f64, f64) = (42.0, 202.0);
 const AWAITED: f64 = 226.0;
 
 /// The most clients that are drawn at the end of an arrow.
-const MOST: usize = 8;
-
-/// A wait is long from here on.
-const LONG: Duration = Duration::from_secs(10);
+const MAX_AWAITED: usize = 8;
 
 /// The picture of these waits, if there are any.
 pub fn svg(waits: &[Wait]) -> Option<String> {
@@ -78,7 +75,7 @@ fn sentence(wait: &Wait) -> String {
 fn row(svg: &mut Markup, wait: &Wait, y: f64, deadlocks: &Deadlocks) {
     let Wait { client, point, hi, mode, waited, waits_for, .. } = wait;
     let is_in_circle = waits_for.iter().any(|other| deadlocks.has_edge(*client, *other));
-    let (class, arrow) = match (is_in_circle, *waited >= LONG) {
+    let (class, arrow) = match (is_in_circle, *waited >= LONG_WAIT) {
         (true, _) => ("wait deadlock", "arrow-deadlock"),
         (false, true) => ("wait long", "arrow-plain"),
         (false, false) => ("wait", "arrow-plain"),
@@ -97,12 +94,12 @@ fn row(svg: &mut Markup, wait: &Wait, y: f64, deadlocks: &Deadlocks) {
         modes::words(*mode),
         brief(*waited)
     ));
-    for (place, other) in waits_for.iter().take(MOST).enumerate() {
+    for (place, other) in waits_for.iter().take(MAX_AWAITED).enumerate() {
         let x = AWAITED + 34.0 * number(place);
         node(svg, *other, x, y, deadlocks.has_edge(*client, *other));
     }
-    if let more @ 1.. = waits_for.len().saturating_sub(MOST) {
-        let x = AWAITED + 34.0 * number(MOST) - 12.0;
+    if let more @ 1.. = waits_for.len().saturating_sub(MAX_AWAITED) {
+        let x = AWAITED + 34.0 * number(MAX_AWAITED) - 12.0;
         svg.add(format_args!("<text x=\"{x}\" y=\"{}\">+{more}</text>", y + 4.0));
     }
     svg.add(format_args!("</g>"));
@@ -120,6 +117,7 @@ fn node(svg: &mut Markup, client: u8, x: f64, y: f64, is_in_circle: bool) {
 #[cfg(test)]
 mod tests {
     use super::*;
+    use std::time::Duration;
 
     fn wait(client: u8, waits_for: &[u8], seconds: u64) -> Wait {
         let waited = Duration::from_secs(seconds);
