@@ -45,6 +45,13 @@ fn each_client_is_listed_with_its_peer_its_lease_and_its_wait() {
         assert_eq!(serving.get("/clients").1.lines().count(), 3);
         let status: Json = serde_json::from_str(&serving.get("/status.json").1).unwrap();
         assert_eq!(status["clients"][1]["wait"]["waits_for"], json!([3]));
+        assert_eq!(status["waits"][0]["waits_for"], json!([3]));
+        assert!(status["waits"][0]["waited_seconds"].as_f64().unwrap() > 0.0);
+        assert_eq!(status["holdings"][0]["client"], 3);
+        assert_eq!((&status["phase"], &status["shard"]), (&json!("serving"), &Json::Null));
+        assert_eq!((&status["rows"], &status["room"]), (&json!(1), &json!(65_536)));
+        assert_eq!((&status["unleased"], &status["evicted_total"]), (&json!([]), &json!(0)));
+        assert!(status["commits_total"].as_u64().unwrap() > 0);
         drop(pin);
         assert_eq!(put.join().unwrap(), Ok(Outcome::Applied));
     });

@@ -1,9 +1,9 @@
 //! Rows of a file into a store that no server serves.
 use super::stores;
 use crate::process::Done;
-use crate::process::output::{self, cause};
+use crate::process::output;
 use crate::settings::{BadSetting, StorePlace};
-use krl::{Room, Snapshot, SqliteStore, Store};
+use krl::{Room, Snapshot};
 use krl_cli::{Existing, FileFormat, Line, ValueForm, read_file};
 use std::path::Path;
 
@@ -36,10 +36,8 @@ fn into_store(path: &Path, lines: Vec<Line>, existing: Existing) -> Done<Added> 
     let owner = stores::own(path)?;
     let added = add(stores::read_left(owner.file())?.snapshot, lines, existing)?;
     stores::judge(&path.display(), &added.store)?;
-    let mut file = SqliteStore::open(owner.file()).map_err(|error| cause(&error))?;
-    file.load().map_err(|error| cause(&error))?;
     let rows = added.written.iter().map(|line| line.row);
-    file.write_rows(rows).map_err(|error| cause(&error))?;
+    stores::change(owner.file(), |file| file.write_rows(rows))?;
     Ok(added)
 }
 
@@ -99,24 +97,6 @@ mod tests {
     fn store() -> Snapshot {
         let rows = [1, 2].map(|key| (key, Value::from(key)));
         Snapshot { epoch: 7, rows: rows.into(), ..Snapshot::default() }
-    }
-
-    #[test]
-    fn rows_that_are_there_are_refused_kept_or_replaced() {
-        let lines = || vec![line(2, 1), line(3, 2)];
-        let message = add(store(), lines(), Existing::Refuse).unwrap_err();
-        assert!(
-            message.starts_with("line 1: the store has a row of key 2: --existing keep"),
-            "{message}"
-        );
-        let kept = add(store(), lines(), Existing::Keep).unwrap();
-        assert_eq!((kept.kept, &kept.written), (1, &vec![line(3, 2)]));
-        assert_eq!(kept.store.rows[&2], Value::from(2));
-        assert_eq!(kept.store.rows[&3], Value::from(5));
-        let replaced = add(store(), lines(), Existing::Replace).unwrap();
-        assert_eq!((replaced.kept, &replaced.written), (0, &lines()));
-        assert_eq!(replaced.store.rows[&2], Value::from(3));
-        assert_eq!((replaced.store.epoch, replaced.store.rows.len()), (7, 3));
     }
 
     #[test]

@@ -127,9 +127,13 @@ fn take_back(start: &str, map: &mut PublishedMap) -> Done<NonZeroU64> {
 
 /// Starts the servers of the old stores, if one of them keeps a shard.
 fn start_remaining(start: &str, stores: &Stores<'_>) {
-    if stores.old.iter().any(|old| !old.after.is_sealed)
-        && let Err(why) = run(start)
-    {
+    if stores.old.iter().any(|old| !old.after.is_sealed) {
+        try_to_start(start);
+    }
+}
+
+fn try_to_start(start: &str) {
+    if let Err(why) = run(start) {
         output::report(&why.to_string());
     }
 }
@@ -247,9 +251,7 @@ fn change_stopped(change: &LiveChange, stores: &Stores<'_>) -> Done {
 /// Starts the old servers, so that the clients that have not left can. Returns which these are.
 fn start_again(start: &str, who: &str) -> String {
     output::report(who);
-    if let Err(error) = run(start) {
-        output::report(&error.to_string());
-    }
+    try_to_start(start);
     who.into()
 }
 

@@ -1,11 +1,10 @@
 //! The map after a split or a merge, as a file.
 use crate::process::Done;
-use crate::process::replaced_file::sync_folder_of;
+use crate::process::replaced_file::NextFile;
 use clap::Args;
 use krl::{Address, KeptShard, Servers, Shard, ShardBounds, ShardMap, Snapshot};
 use std::error::Error;
-use std::fs::OpenOptions;
-use std::io::{self, ErrorKind, Write};
+use std::io::{self, ErrorKind};
 use std::path::{Path, PathBuf};
 
 /// The map of a split.
@@ -153,7 +152,8 @@ impl NextMap {
     /// Writes the map, and returns by which shard each server has to be started.
     pub fn write(&self) -> Done<String> {
         let at = self.path.display();
-        write(&self.path, &self.map.to_toml()).map_err(|error| {
+        let written = NextFile::write(&self.path, &self.map.to_toml());
+        written.and_then(NextFile::take_its_place).map_err(|error| {
             format!("the stores are as they should be, but the map {at} can't be written: {error}")
         })?;
         let shards = self.map.shards().iter().enumerate();
@@ -178,14 +178,6 @@ fn may_become(path: &Path, text: &str) -> io::Result<bool> {
         Err(error) if error.kind() == ErrorKind::NotFound => Ok(true),
         Err(error) => Err(error),
     }
-}
-
-fn write(path: &Path, text: &str) -> io::Result<()> {
-    let mut options = OpenOptions::new();
-    let mut file = options.write(true).create(true).truncate(false).open(path)?;
-    file.write_all(text.as_bytes())?;
-    file.sync_all()?;
-    sync_folder_of(path)
 }
 
 /// What the shard of this key has.

@@ -6,7 +6,7 @@ use super::stores::{self, own, read_left};
 use crate::process::Done;
 use crate::process::output::{self, cause};
 use krl::operate::{Checksum, StoreFile};
-use krl::{END, KeptShard, ShardBounds, Snapshot, SqliteStore, Store};
+use krl::{END, KeptShard, Snapshot, SqliteStore};
 use std::error::Error;
 use std::path::Path;
 
@@ -52,9 +52,9 @@ pub fn split(
     stores::judge(&store.display(), &lower)?;
     stores::judge(&new.display(), &upper)?;
     create(new, &upper)?;
-    cut_off(owner.file(), at, &upper, lower.shard).map_err(|error| {
-        format!("{} may have all its rows still: {error}. Split it again", store.display())
-    })?;
+    stores::change(owner.file(), |file| file.cut_off(at, &upper, lower.shard)).map_err(
+        |error| format!("{} may have all its rows still: {error}. Split it again", store.display()),
+    )?;
     unseal(new)?;
     let (below, from) = (lower.rows.len(), upper.rows.len());
     let done = format!(
@@ -112,8 +112,8 @@ pub fn merge(lower: &Path, upper: &Path, new: &Path, map: &MergeMap) -> Done<Don
     create(new, &whole)?;
     if let Some(shards) = &shards {
         let [below, from] = shards.sealed();
-        seal(owners.0.file(), below, &whole)?;
-        seal(owners.1.file(), from, &whole)?;
+        stores::change(owners.0.file(), |file| file.seal(below, &whole))?;
+        stores::change(owners.1.file(), |file| file.seal(from, &whole))?;
     }
     unseal(new)?;
     let (rows, epoch) = (whole.rows.len(), whole.epoch);
@@ -169,20 +169,6 @@ fn set_other_aside(new: &Path, snapshot: &Snapshot) -> Done {
         Some(shard) => stores::set_unused_aside(new, &shard.bounds.keys()),
         None => Ok(()),
     }
-}
-
-fn cut_off(store: &Path, at: u64, upper: &Snapshot, lower: Option<KeptShard>) -> Done {
-    let mut file = SqliteStore::open(store).map_err(|error| cause(&error))?;
-    file.load().map_err(|error| cause(&error))?;
-    file.cut_off(at, upper, lower).map_err(|error| cause(&error))?;
-    Ok(())
-}
-
-fn seal(store: &Path, bounds: ShardBounds, new: &Snapshot) -> Done {
-    let mut file = SqliteStore::open(store).map_err(|error| cause(&error))?;
-    file.load().map_err(|error| cause(&error))?;
-    file.seal(bounds, new).map_err(|error| cause(&error))?;
-    Ok(())
 }
 
 /// A server may start on the store: no other one has its rows any more.

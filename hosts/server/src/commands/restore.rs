@@ -61,36 +61,10 @@ fn restored(mut snapshot: Snapshot) -> Result<Snapshot, String> {
 #[cfg(test)]
 mod tests {
     use super::*;
-    use krl::{Outcome, Record, Value};
-
-    fn snapshot(epoch: u64) -> Snapshot {
-        let record = |client, last, left| Record { client, incarnation: 9, last, left };
-        Snapshot {
-            epoch,
-            rows: (0..5).map(|key| (key, Value::from(key))).collect(),
-            records: vec![
-                record(3, Some((4, Outcome::Applied)), false),
-                record(1, None, true),
-                record(63, None, false),
-            ],
-            ..Snapshot::default()
-        }
-    }
-
-    #[test]
-    fn nobody_is_waited_for_and_the_epoch_is_far() {
-        let before = snapshot(7);
-        let after = restored(before.clone()).unwrap();
-        assert_eq!(after.epoch, 7 + (1 << 32));
-        assert_eq!(after.rows, before.rows);
-        assert!(after.records.iter().all(|record| record.left));
-        let as_before = |record: &Record| (record.client, record.incarnation, record.last);
-        assert!(after.records.iter().map(as_before).eq(before.records.iter().map(as_before)));
-        assert_eq!(after.judge(), Ok(()));
-    }
 
     #[test]
     fn no_epoch_passes_the_last_one() {
+        let snapshot = |epoch| Snapshot { epoch, ..Snapshot::default() };
         let last = restored(snapshot(END - 1 - FAR)).unwrap();
         assert_eq!((last.epoch, last.judge()), (END - 1, Ok(())));
         for epoch in [END - FAR, END - 1, u64::MAX] {

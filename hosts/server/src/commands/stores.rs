@@ -5,7 +5,7 @@ use crate::process::output::{self, cause, numbers};
 use crate::process::replaced_file::beside;
 use crate::settings::{StorePlace, credentials};
 use krl::operate::StoreFile;
-use krl::{Snapshot, SqliteStore, StoreError};
+use krl::{Snapshot, SqliteStore, Store, StoreError};
 use krl_etcd::EtcdStore;
 use krl_postgres::PostgresStore;
 use std::fmt::Display;
@@ -75,6 +75,18 @@ pub fn set_unused_aside(store: &Path, keys: &Range<u64>) -> Done {
         if from.exists() { fs::rename(from, beside(&aside, end)) } else { Ok(()) }
     })?;
     Ok(())
+}
+
+/// Changes a store that this process owns.
+pub fn change<T>(
+    store: &Path,
+    change: impl FnOnce(&mut SqliteStore) -> Result<T, StoreError>,
+) -> Result<T, String> {
+    let opened = SqliteStore::open(store).and_then(|mut file| {
+        file.load()?;
+        change(&mut file)
+    });
+    opened.map_err(|error| cause(&error))
 }
 
 /// No server starts on the store while this process has it.

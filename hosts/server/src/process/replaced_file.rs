@@ -43,7 +43,7 @@ impl Drop for NextFile {
 }
 
 /// Returns when the disk has the names of the files in the folder of this one.
-pub fn sync_folder_of(path: &Path) -> io::Result<()> {
+fn sync_folder_of(path: &Path) -> io::Result<()> {
     let folder = path.parent().filter(|folder| !folder.as_os_str().is_empty());
     File::open(folder.unwrap_or(Path::new(".")))?.sync_all()
 }

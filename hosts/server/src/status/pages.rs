@@ -4,7 +4,6 @@ use super::locks::{self, Question};
 use super::metrics::metrics;
 use super::origin::{self, Asker};
 use super::paths::{self, FIGURES, HTML, JSON, SVG, TEXT};
-use super::recent::Rates;
 use super::shown::Shown;
 use super::visitors::Visit;
 use super::{clients, others, page};
@@ -13,7 +12,7 @@ use crate::process::role::State;
 use hyper::header::{ACCEPT, ALLOW, CONTENT_TYPE};
 use hyper::{Body, Method, Request, Response, StatusCode};
 use krl::operate::Liveness;
-use krl::{HeldSlots, Identity, Monitor, ShardBounds, Status};
+use krl::{HeldSlots, Identity, Monitor, Status};
 use serde_json::json;
 use std::collections::BTreeMap;
 use std::time::{Duration, Instant};
@@ -237,18 +236,9 @@ async fn drawn_page(path: &str, query: &str, shown: &Shown, monitor: &Monitor) -
 }
 
 fn status_as_json(shown: &Shown, monitor: &Monitor) -> Page {
-    let status = monitor.status();
-    let rates = shown.recent.rates(&status, Instant::now());
+    let (status, state) = (&monitor.status(), shown.role.state());
+    let rates = shown.recent.rates(status, Instant::now());
     let shard = status.shard.or(shown.table.shard);
-    as_json(&status, &shown.role.state(), shard, rates)
-}
-
-fn as_json(
-    status: &Status,
-    state: &State,
-    shard: Option<ShardBounds>,
-    rates: Option<Rates>,
-) -> Page {
     let holds = |held: &HeldSlots| json!({ "client": held.client, "slots": held.slots });
     let text = json!({
         "version": env!("CARGO_PKG_VERSION"),
@@ -388,28 +378,5 @@ mod tests {
         assert_eq!(readiness(&Status::default()).text, "starting\n");
         status.is_serving = true;
         assert_eq!(readiness(&status).status, StatusCode::OK);
-    }
-
-    #[test]
-    fn json_has_the_status() {
-        let waited = Duration::from_millis(40);
-        let mut status = Status::default();
-        (status.epoch, status.rows, status.commits) = (4, 5, 9);
-        status.waits = vec![krl::Wait::new(3, 10..20, krl::Mode::RangeXX, waited, vec![0, 2])];
-        status.holdings = vec![HeldSlots::new(2, 7)];
-        status.unleased = vec![6];
-        let rates = Some(Rates { commits: 2.5, ..Rates::default() });
-        let page = as_json(&status, &State::Starts, "0..500@3".parse().ok(), rates);
-        let value: serde_json::Value = serde_json::from_str(&page.text).unwrap();
-        assert_eq!((&value["epoch"], &value["room"]), (&json!(4), &json!(65_536)));
-        assert_eq!((&value["reach"], &value["shard"]), (&json!(128), &json!("0..500@3")));
-        assert_eq!((&value["rows"], &value["phase"]), (&json!(5), &json!("recovering")));
-        assert_eq!((&value["commits_total"], &value["rates"]["commits"]), (&json!(9), &json!(2.5)));
-        assert_eq!(value["clients"], json!([]));
-        assert_eq!((&value["unleased"], &value["evicted_total"]), (&json!([6]), &json!(0)));
-        assert_eq!(value["waits"][0]["waits_for"], json!([0, 2]));
-        assert_eq!(value["waits"][0]["waited_seconds"], 0.04);
-        assert_eq!(value["holdings"], json!([{ "client": 2, "slots": 7 }]));
-        assert_eq!(page.kind, JSON);
     }
 }
