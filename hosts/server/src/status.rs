@@ -12,6 +12,7 @@ mod pages;
 pub mod paths;
 pub mod port;
 mod recent;
+mod report;
 pub mod shown;
 mod tls_stream;
 mod visitors;

@@ -209,3 +209,6 @@ settings! {
         .expects("a whole number from 0 to 100")
         .helps("By how many percent this machine's clock may run faster than a client's");
 }
+
+/// Those of a connection by TLS.
+pub const OF_TLS: &[&Key] = &[&TLS_AUTHORITY, &TLS_CERTIFICATE, &TLS_KEY, &TABLE];

@@ -4,7 +4,6 @@ use super::tls_files::TlsFiles;
 use super::{BadSetting, Given, Key, key};
 use clap::{ArgMatches, Args, FromArgMatches};
 use krl::TlsConfig;
-use std::marker::PhantomData;
 use std::path::PathBuf;
 
 /// How a server runs. What is not given here comes from the environment, then from the
@@ -12,42 +11,24 @@ use std::path::PathBuf;
 #[derive(Args, Debug)]
 pub struct ServeOptions {
     #[command(flatten)]
-    pub flags: Flags<OfServer>,
+    pub flags: Flags<true>,
     /// A configuration file in TOML. Its keys are the names of these options
     #[arg(long, env = "KRL_CONFIG", value_name = "FILE")]
     pub config: Option<PathBuf>,
 }
 
 /// What is shown by TLS, and whom it trusts.
-pub type TlsOptions = Flags<OfTls>;
+pub type TlsOptions = Flags<false>;
 
-/// The settings that are given by these flags, or by the environment.
+/// The settings that are given by these flags, or by the environment: all of them, or those of a
+/// connection by TLS.
 #[derive(Debug)]
-pub struct Flags<K> {
+pub struct Flags<const ARE_ALL: bool> {
     pub(super) given: Given,
-    keys: PhantomData<K>,
 }
 
-/// Which settings have flags.
-pub trait Keys {
-    const KEYS: &'static [&'static Key];
-}
-
-/// Those of a server: all.
-#[derive(Debug)]
-pub enum OfServer {}
-
-/// Those of a connection by TLS.
-#[derive(Debug)]
-pub enum OfTls {}
-
-impl Keys for OfServer {
-    const KEYS: &'static [&'static Key] = key::ALL;
-}
-
-impl Keys for OfTls {
-    const KEYS: &'static [&'static Key] =
-        &[&key::TLS_AUTHORITY, &key::TLS_CERTIFICATE, &key::TLS_KEY, &key::TABLE];
+impl<const ARE_ALL: bool> Flags<ARE_ALL> {
+    const KEYS: &'static [&'static Key] = if ARE_ALL { key::ALL } else { key::OF_TLS };
 }
 
 impl TlsOptions {
@@ -62,9 +43,9 @@ impl TlsOptions {
     }
 }
 
-impl<K: Keys> FromArgMatches for Flags<K> {
-    fn from_arg_matches(matches: &ArgMatches) -> Result<Flags<K>, clap::Error> {
-        Ok(Flags { given: Given::of_words(K::KEYS, matches), keys: PhantomData })
+impl<const ARE_ALL: bool> FromArgMatches for Flags<ARE_ALL> {
+    fn from_arg_matches(matches: &ArgMatches) -> Result<Flags<ARE_ALL>, clap::Error> {
+        Ok(Flags { given: Given::of_words(Flags::<ARE_ALL>::KEYS, matches) })
     }
 
     fn update_from_arg_matches(&mut self, matches: &ArgMatches) -> Result<(), clap::Error> {
@@ -73,12 +54,12 @@ impl<K: Keys> FromArgMatches for Flags<K> {
     }
 }
 
-impl<K: Keys> Args for Flags<K> {
+impl<const ARE_ALL: bool> Args for Flags<ARE_ALL> {
     fn augment_args(command: clap::Command) -> clap::Command {
-        command.args(K::KEYS.iter().map(|key| key.argument()))
+        command.args(Flags::<ARE_ALL>::KEYS.iter().map(|key| key.argument()))
     }
 
     fn augment_args_for_update(command: clap::Command) -> clap::Command {
-        Flags::<K>::augment_args(command)
+        Flags::<ARE_ALL>::augment_args(command)
     }
 }

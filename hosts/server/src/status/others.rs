@@ -4,11 +4,8 @@
 //! their state. A slow or silent one keeps neither the page nor the others waiting.
 use super::http;
 use super::paths::{JSON, STATUS_AS_JSON};
-use crate::process::role::State;
+use super::report::Report;
 use crate::settings::StatusPort;
-use krl::{ShardBounds, Status};
-use serde::de::IgnoredAny;
-use serde::{Deserialize, Deserializer};
 use std::sync::{Arc, Mutex, MutexGuard, PoisonError};
 use std::time::{Duration, Instant};
 use tokio::time::{sleep, timeout};
@@ -55,67 +52,6 @@ pub struct Other {
     pub url: String,
     /// What it has answered last; none if that has not come yet.
     pub answer: Option<Answer>,
-}
-
-/// The state of a server, as it stands in its `/status.json`. A process that stands by has few of
-/// these, and each process has a role.
-#[derive(Clone, Debug, Default, Deserialize, PartialEq, Eq)]
-pub struct Report {
-    pub role: String,
-    pub leader: Option<String>,
-    #[serde(default)]
-    pub phase: String,
-    pub failure: Option<String>,
-    pub shard: Option<String>,
-    #[serde(default)]
-    pub epoch: u64,
-    #[serde(default)]
-    pub rows: u64,
-    #[serde(default)]
-    pub room: usize,
-    /// How many clients are connected or held something, and how many wait.
-    #[serde(default, deserialize_with = "length")]
-    pub clients: usize,
-    #[serde(default, deserialize_with = "length")]
-    pub waits: usize,
-    #[serde(default)]
-    pub alarms_total: u64,
-    #[serde(default)]
-    pub store_alarms_total: u64,
-}
-
-/// How long a list is.
-fn length<'de, D: Deserializer<'de>>(list: D) -> Result<usize, D::Error> {
-    Vec::<IgnoredAny>::deserialize(list).map(|list| list.len())
-}
-
-impl Report {
-    /// What this process would report of itself.
-    pub fn own(state: &State, status: &Status, shard: Option<ShardBounds>) -> Report {
-        let leader = match state {
-            State::StandsBy { leader } => Some(leader.clone()),
-            _ => None,
-        };
-        Report {
-            role: state.word().to_string(),
-            leader,
-            phase: phase(status).to_string(),
-            failure: status.failure.clone(),
-            shard: shard.map(|shard| shard.to_string()),
-            epoch: status.epoch,
-            rows: status.rows,
-            room: status.room.rows(),
-            clients: status.clients.len(),
-            waits: status.waits.len(),
-            alarms_total: status.alarms_raised,
-            store_alarms_total: status.store_alarms,
-        }
-    }
-}
-
-/// The word for what the server does.
-pub fn phase(status: &Status) -> &'static str {
-    if status.is_serving { "serving" } else { "recovering" }
 }
 
 impl Others {

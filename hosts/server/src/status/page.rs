@@ -9,11 +9,10 @@ mod overview;
 mod servers;
 mod waits_picture;
 
-use super::backup;
 use super::metrics::seconds_left;
-use super::others::Report;
 use super::paths::PICTURE;
 use super::shown::{Shown, Table};
+use super::{backup, report};
 use crate::process::role::State;
 use held_picture::HeldPicture;
 use krl::operate::LocksError;
@@ -72,7 +71,13 @@ pub async fn without_a_server(shown: &Shown, state: &State) -> String {
 /// The servers of the table, if this one knows others.
 async fn servers(shown: &Shown, state: &State, status: &Status) -> String {
     let Table { others, shard } = &shown.table;
-    servers::part(&Report::own(state, status, status.shard.or(*shard)), &others.look().await)
+    let own = match state {
+        State::Serves { .. } => report::of_server(state, status, status.shard.or(*shard), None),
+        _ => report::of_role(state),
+    };
+    // What this server reports can be read as what another one does.
+    let own = serde_json::from_value(own).unwrap_or_default();
+    servers::part(&own, &others.look().await)
 }
 
 /// The picture of who holds which of these points, as a file of SVG.

@@ -1,20 +1,19 @@
 //! What the status port answers.
 use super::backup::{self, Order};
-use super::locks::{self, Question};
+use super::locks::Question;
 use super::metrics::metrics;
 use super::origin::{self, Asker};
 use super::paths::{self, FIGURES, HTML, JSON, SVG, TEXT};
 use super::shown::Shown;
 use super::visitors::Visit;
-use super::{clients, others, page};
+use super::{clients, page, report};
 use crate::process::output::numbers;
 use crate::process::role::State;
 use hyper::header::{ACCEPT, ALLOW, CONTENT_TYPE};
 use hyper::{Body, Method, Request, Response, StatusCode};
 use krl::operate::Liveness;
-use krl::{HeldSlots, Identity, Monitor, Status};
-use serde_json::json;
-use std::collections::BTreeMap;
+use krl::{Identity, Monitor, Status};
+use serde_json::Value;
 use std::time::{Duration, Instant};
 use tokio::time::timeout;
 
@@ -137,25 +136,14 @@ fn without_a_server(path: &str, accepts: &str, state: &State) -> Page {
     let text = format!("role: {state}\n");
     match path {
         paths::ALIVE => Page::text(StatusCode::OK, "ok\n"),
-        paths::STATUS if accepts.contains(JSON) => role_as_json(state),
+        paths::STATUS if accepts.contains(JSON) => as_json(&report::of_role(state)),
         paths::STATUS => Page::text(StatusCode::OK, text),
-        paths::STATUS_AS_JSON => role_as_json(state),
+        paths::STATUS_AS_JSON => as_json(&report::of_role(state)),
         paths::READY | paths::CLIENTS | paths::LOCKS | paths::PICTURE | paths::BACKUP => {
             Page::text(StatusCode::SERVICE_UNAVAILABLE, text)
         }
         _ => Page::text(StatusCode::NOT_FOUND, paths::ALL),
     }
-}
-
-fn role_as_json(state: &State) -> Page {
-    let leader = match state {
-        State::StandsBy { leader } => Some(leader),
-        _ => None,
-    };
-    let text = json!({
-        "version": env!("CARGO_PKG_VERSION"), "role": state.word(), "leader": leader,
-    });
-    Page::new(StatusCode::OK, JSON, format!("{text:#}\n"))
 }
 
 fn page(path: &str, accepts: &str, shown: &Shown, monitor: &Monitor) -> Page {
@@ -236,46 +224,14 @@ async fn drawn_page(path: &str, query: &str, shown: &Shown, monitor: &Monitor) -
 }
 
 fn status_as_json(shown: &Shown, monitor: &Monitor) -> Page {
-    let (status, state) = (&monitor.status(), shown.role.state());
+    let status = &monitor.status();
     let rates = shown.recent.rates(status, Instant::now());
     let shard = status.shard.or(shown.table.shard);
-    let holds = |held: &HeldSlots| json!({ "client": held.client, "slots": held.slots });
-    let text = json!({
-        "version": env!("CARGO_PKG_VERSION"),
-        "role": state.word(),
-        "serves_since": state.since(),
-        "shard": shard.map(|shard| shard.to_string()),
-        "epoch": status.epoch,
-        "rows": status.rows,
-        "room": status.room.rows(),
-        "reach": status.reach.slots(),
-        "phase": others::phase(status),
-        "failure": status.failure,
-        "missing": status.missing,
-        "connected": status.connected,
-        "connections": status.connections,
-        "connections_closed_total": status.closed.counts().collect::<BTreeMap<_, _>>(),
-        "clients": clients::as_json(status),
-        "rates": rates.map(|rates| rates.as_json()),
-        "waits": status.waits.iter().map(locks::wait_as_json).collect::<Vec<_>>(),
-        "holdings": status.holdings.iter().map(holds).collect::<Vec<_>>(),
-        "alarms": status.alarms,
-        "alarms_total": status.alarms_raised,
-        "store_alarms_total": status.store_alarms,
-        "messages_taken_total": status.taken,
-        "messages_sent_total": status.sent,
-        "messages_refused_total": status.refused,
-        "denied_total": status.denied,
-        "repeats_held_back_total": status.held_back,
-        "changes_total": status.changes,
-        "commits_total": status.commits,
-        "signs_total": status.signs,
-        "evicted_total": status.evicted,
-        "unleased": status.unleased,
-        "longest_lease_seconds": status.longest_lease.as_secs_f64(),
-        "last_backup": backup::last(),
-    });
-    Page::new(StatusCode::OK, JSON, format!("{text:#}\n"))
+    as_json(&report::of_server(&shown.role.state(), status, shard, rates))
+}
+
+fn as_json(report: &Value) -> Page {
+    Page::new(StatusCode::OK, JSON, format!("{report:#}\n"))
 }
 
 /// Takes the order to make a backup. Its kind has to be JSON, which no page of another site can

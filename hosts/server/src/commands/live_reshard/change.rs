@@ -11,6 +11,7 @@
 //! **So no server can start on the new store while one can start on another store that has its
 //! rows.** Each step may be cut off: the same call continues from what the stores show.
 use crate::commands::stores;
+use crate::daemon::owner::Owner;
 use crate::process::Done;
 use krl::{Change, KeptShard, Mark, ShardBounds, Snapshot, Store, StoreError};
 use std::error::Error;
@@ -21,11 +22,8 @@ const BATCHES_OF_A_CHANGE: u64 = 2;
 
 /// Where a store is.
 pub trait Place: fmt::Display {
-    /// A store that is there. Opening it changes nothing.
-    type Opened: AsMut<dyn Store>;
-
-    /// Opens the store that is there.
-    fn open(&self) -> Done<Self::Opened>;
+    /// Opens the store that is there, which changes nothing.
+    fn open(&self) -> Done<Opened>;
 
     /// Makes a store of the snapshot where there is none.
     fn create(&self, snapshot: &Snapshot) -> Done;
@@ -33,6 +31,18 @@ pub trait Place: fmt::Display {
     /// Makes room for another store if there is one of these keys that is sealed. No change has used
     /// it, and nobody else uses it now.
     fn clear(&self, unused: &ShardBounds) -> Done;
+}
+
+/// A store that is open, and, of a file, the right to serve it.
+pub struct Opened {
+    pub store: Box<dyn Store>,
+    _owner: Option<Owner>,
+}
+
+impl Opened {
+    pub fn new(store: impl Store + 'static, owner: Option<Owner>) -> Opened {
+        Opened { store: Box::new(store), _owner: owner }
+    }
 }
 
 /// A store whose shard changes.
@@ -62,7 +72,7 @@ pub struct Unknown(String);
 /// An old store that is open.
 struct Taken<'s, 'p, P: Place> {
     old: &'s OldStore<'p, P>,
-    opened: P::Opened,
+    opened: Opened,
     snapshot: Snapshot,
 }
 
@@ -98,7 +108,7 @@ pub fn change<P: Place>(
 /// A server may start on the new store from now on: the old ones, which nobody serves, have changed. If
 /// the new one was made of them, one of them has changed by its first start.
 pub fn open_new<P: Place>(old: &[OldStore<'_, P>], new: &NewStore<'_, P>) -> Done {
-    let opened = new.place.open().and_then(|mut opened| load(new.place, opened.as_mut()));
+    let opened = new.place.open().and_then(|mut opened| load(new.place, &mut opened));
     let made = opened.map_err(|error| not_made(new, &format!(": {error}")))?;
     if made.shard == Some(KeptShard::open(new.shard)) {
         return Ok(());
@@ -145,16 +155,16 @@ fn have_changed_by<P: Place>(old: &[OldStore<'_, P>], start: Option<u128>) -> Do
 
 fn unseal<P: Place>(new: &NewStore<'_, P>) -> Done {
     let mut opened = new.place.open()?;
-    let epoch = next_epoch(new.place, &load(new.place, opened.as_mut())?)?;
+    let epoch = next_epoch(new.place, &load(new.place, &mut opened)?)?;
     let changes = [Change::Started { epoch }, Change::Shard(KeptShard::open(new.shard))];
-    commit(new.place, opened.as_mut(), &changes)
+    commit(new.place, &mut opened, &changes)
 }
 
 impl<'s, 'p, P: Place> Taken<'s, 'p, P> {
     /// Opens an old store, if it is of its shard, before the change or after it, and nobody uses it.
     fn open(old: &'s OldStore<'p, P>) -> Done<Taken<'s, 'p, P>> {
         let mut opened = old.place.open()?;
-        let snapshot = load(old.place, opened.as_mut())?;
+        let snapshot = load(old.place, &mut opened)?;
         if ![KeptShard::open(old.before), old.after].map(Some).contains(&snapshot.shard) {
             return Err(other_shard(old, snapshot.shard).into());
         }
@@ -171,23 +181,23 @@ impl<'s, 'p, P: Place> Taken<'s, 'p, P> {
 
     /// Takes the store as a server that starts does. Returns the bits of the start.
     fn start(&mut self) -> Done<u128> {
-        let (place, store) = (self.old.place, self.opened.as_mut());
+        let place = self.old.place;
         let epoch = next_epoch(place, &self.snapshot)?;
-        commit(place, store, &[Change::Started { epoch }])?;
-        self.snapshot = store.snapshot()?;
-        let mark = store.history()?.and_then(|history| history.mark());
+        commit(place, &mut self.opened, &[Change::Started { epoch }])?;
+        self.snapshot = self.opened.store.snapshot()?;
+        let mark = self.opened.store.history()?.and_then(|history| history.mark());
         Ok(mark.ok_or_else(|| format!("{place} keeps no history"))?.start)
     }
 
     fn become_next(&mut self) -> Done {
-        let made = commit(self.old.place, self.opened.as_mut(), &[Change::Shard(self.old.after)]);
+        let made = commit(self.old.place, &mut self.opened, &[Change::Shard(self.old.after)]);
         made.map_err(|why| if why.is::<InUse>() { why } else { Unknown(why.to_string()).into() })
     }
 
     /// Whether the store has changed by this start.
     fn has_changed_by(&mut self, start: Option<u128>) -> Done<bool> {
         let mark = start.map(|start| Mark { start, commits: BATCHES_OF_A_CHANGE });
-        let history = self.opened.as_mut().history()?;
+        let history = self.opened.store.history()?;
         Ok(mark.zip(history).is_some_and(|(mark, history)| history.has(mark)))
     }
 }
@@ -201,12 +211,12 @@ pub fn other_shard<P: Place>(old: &OldStore<'_, P>, kept: Option<KeptShard>) -> 
     }
 }
 
-fn load(place: &impl Place, store: &mut dyn Store) -> Done<Snapshot> {
-    store.load().map_err(|error| failed(place, &error))
+fn load(place: &impl Place, opened: &mut Opened) -> Done<Snapshot> {
+    opened.store.load().map_err(|error| failed(place, &error))
 }
 
-fn commit(place: &impl Place, store: &mut dyn Store, changes: &[Change]) -> Done {
-    store.commit(changes).map_err(|error| failed(place, &error))
+fn commit(place: &impl Place, opened: &mut Opened, changes: &[Change]) -> Done {
+    opened.store.commit(changes).map_err(|error| failed(place, &error))
 }
 
 fn failed(place: &impl Place, error: &StoreError) -> Box<dyn Error> {

@@ -1,8 +1,8 @@
 //! The stores whose shards change, and the new one, as the command finds them.
-use super::change::{self, NewStore, OldStore, Place};
+use super::change::{self, NewStore, OldStore, Opened, Place};
 use super::{POLL_PERIOD, START_OR_END};
 use crate::commands::{ask, stores};
-use crate::daemon::owner::{self, Owner};
+use crate::daemon::owner;
 use crate::process::Done;
 use crate::process::output::{self, cause};
 use crate::settings::{StatusPort, StorePlace, credentials};
@@ -146,38 +146,23 @@ pub fn shard_of(place: &StorePlace) -> Done<Option<KeptShard>> {
     Ok(snapshot.shard)
 }
 
-/// A store that is open, and, of a file, the right to serve it.
-pub struct OpenStore {
-    store: Box<dyn Store>,
-    _owner: Option<Owner>,
-}
-
-impl AsMut<dyn Store> for OpenStore {
-    fn as_mut(&mut self) -> &mut (dyn Store + 'static) {
-        &mut *self.store
-    }
-}
-
 impl Place for StorePlace {
-    type Opened = OpenStore;
-
-    fn open(&self) -> Done<OpenStore> {
+    fn open(&self) -> Done<Opened> {
         let fails = |error: StoreError| format!("{self}: {}", cause(&error));
-        let (store, owner): (Box<dyn Store>, _) = match self {
+        Ok(match self {
             StorePlace::File(path) => {
                 let owner = stores::own(path)?;
-                (Box::new(SqliteStore::open(owner.file()).map_err(fails)?), Some(owner))
+                Opened::new(SqliteStore::open(owner.file()).map_err(fails)?, Some(owner))
             }
             StorePlace::Etcd(address) => {
                 let store = EtcdStore::open(address, &credentials::of_environment());
-                (Box::new(store.map_err(fails)?.with_commit_timeout(COMMIT_WAIT)), None)
+                Opened::new(store.map_err(fails)?.with_commit_timeout(COMMIT_WAIT), None)
             }
             StorePlace::Postgres(address) => {
                 let store = PostgresStore::open(address, credentials::user().as_ref());
-                (Box::new(store.map_err(fails)?.with_commit_timeout(COMMIT_WAIT)), None)
+                Opened::new(store.map_err(fails)?.with_commit_timeout(COMMIT_WAIT), None)
             }
-        };
-        Ok(OpenStore { store, _owner: owner })
+        })
     }
 
     fn create(&self, snapshot: &Snapshot) -> Done {

@@ -1,6 +1,7 @@
 //! The servers of a table: a row for each, with a link to its page.
 use super::markup::{Markup, escape};
-use crate::status::others::{Answer, Other, Report};
+use crate::status::others::{Answer, Other};
+use crate::status::report::Report;
 
 /// The part of the page, which is empty if this server knows no others.
 pub fn part(own: &Report, others: &[Other]) -> String {

@@ -27,7 +27,7 @@ struct Named {
 }
 
 /// An open store, which knows how far it had come.
-struct Opened {
+struct OpenStore {
     of: Named,
     known: Option<Mark>,
 }
@@ -61,11 +61,10 @@ impl fmt::Display for Named {
 }
 
 impl Place for Named {
-    type Opened = Opened;
-
     fn open(&self) -> Done<Opened> {
         self.kept().ok_or("there is no such store")?;
-        Ok(Opened { of: self.clone(), known: None })
+        let store = OpenStore { of: self.clone(), known: None };
+        Ok(Opened::new(store, None))
     }
 
     fn create(&self, snapshot: &Snapshot) -> Done {
@@ -84,13 +83,7 @@ impl Place for Named {
     }
 }
 
-impl AsMut<dyn Store> for Opened {
-    fn as_mut(&mut self) -> &mut (dyn Store + 'static) {
-        self
-    }
-}
-
-impl Store for Opened {
+impl Store for OpenStore {
     fn load(&mut self) -> Result<Snapshot, StoreError> {
         let kept = self.of.kept().unwrap();
         self.known = kept.starts.last().copied();
@@ -185,7 +178,7 @@ impl World {
 
 /// A server starts on the store, and a client that inserts what the store lacks, and leaves.
 fn serve(store: &Named) {
-    let mut opened = store.open().unwrap();
+    let mut opened = store.open().unwrap().store;
     let found = opened.load().unwrap();
     opened.commit(&[Change::Started { epoch: found.epoch + 1 }]).unwrap();
     opened.commit(&[Change::Registered { client: 3, incarnation: found.epoch + 1 }]).unwrap();
@@ -307,7 +300,7 @@ fn stores_of_other_shards_and_stores_in_use_stay_as_they_are() {
     let world = World::new();
     world.allow(usize::MAX);
     let register = Change::Registered { client: 7, incarnation: 1 };
-    let mut served = world.named("a").open().unwrap();
+    let mut served = world.named("a").open().unwrap().store;
     served.load().unwrap();
     served.commit(&[register]).unwrap();
     let before = format!("{:?}", world.0.lock().unwrap().kept);
