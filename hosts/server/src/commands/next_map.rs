@@ -39,6 +39,8 @@ pub struct MergeMap {
 pub struct NextMap {
     before: ShardMap,
     map: ShardMap,
+    /// Where two shards meet, before or after the change.
+    at: u64,
     path: PathBuf,
 }
 
@@ -56,16 +58,11 @@ impl SplitMap {
         }
         refuse_other_store(&map, at, store)?;
         let next = map.split(at, servers.clone()).map_err(|error| no_map(path, at, &error))?;
-        NextMap::new(map, next, new).map(Some)
+        NextMap::new(map, next, at, new).map(Some)
     }
 }
 
 impl MergeMap {
-    /// The key at which the two shards meet, if a map is given.
-    pub fn at(&self) -> Option<u64> {
-        self.at
-    }
-
     /// The next map, if one is wanted. The stores have to be those of the two shards.
     pub fn next(&self, lower: &Snapshot, upper: &Snapshot) -> Done<Option<NextMap>> {
         let (Some(path), Some(at), Some(new)) = (&self.map, self.at, &self.new_map) else {
@@ -75,7 +72,7 @@ impl MergeMap {
         let next = map.merge(at).map_err(|error| no_map(path, at, &error))?;
         refuse_other_store(&map, at - 1, lower)?;
         refuse_other_store(&map, at, upper)?;
-        NextMap::new(map, next, new).map(Some)
+        NextMap::new(map, next, at, new).map(Some)
     }
 }
 
@@ -129,24 +126,21 @@ fn refuse_other_shard(own: KeptShard, expected: ShardBounds) -> Done {
 }
 
 impl NextMap {
-    /// The shards of the cut at this key.
-    pub fn shards_of_cut(&self, at: u64) -> Done<CutShards> {
-        let [lower, upper] = neighbors(&self.map, at)?;
-        let whole = bounds(&self.before, at)?;
-        Ok(CutShards { whole, lower, upper })
+    pub fn shards_of_cut(&self) -> Done<CutShards> {
+        let [lower, upper] = neighbors(&self.map, self.at)?;
+        Ok(CutShards { whole: bounds(&self.before, self.at)?, lower, upper })
     }
 
-    /// The shards of the merge of those that meet at this key.
-    pub fn shards_of_merge(&self, at: u64) -> Done<MergedShards> {
-        let whole = bounds(&self.map, at)?;
-        Ok(MergedShards { whole, before: neighbors(&self.before, at)? })
+    pub fn shards_of_merge(&self) -> Done<MergedShards> {
+        let before = neighbors(&self.before, self.at)?;
+        Ok(MergedShards { whole: bounds(&self.map, self.at)?, before })
     }
 
-    fn new(before: ShardMap, map: ShardMap, path: &Path) -> Done<NextMap> {
+    fn new(before: ShardMap, map: ShardMap, at: u64, path: &Path) -> Done<NextMap> {
         if !may_become(path, &map.to_toml())? {
             return Err(format!("there is a file {} already", path.display()).into());
         }
-        Ok(NextMap { before, map, path: path.into() })
+        Ok(NextMap { before, map, at, path: path.into() })
     }
 
     /// Writes the map, and returns by which shard each server has to be started.
@@ -170,11 +164,10 @@ impl NextMap {
     }
 }
 
-/// Whether the file may be given this text: there is none, or a command that was killed has
-/// written the text's beginning, or all of it.
+/// Whether the file may be given this text: there is none, or a command that was killed has written it.
 fn may_become(path: &Path, text: &str) -> io::Result<bool> {
     match std::fs::read(path) {
-        Ok(bytes) => Ok(text.as_bytes().starts_with(&bytes)),
+        Ok(bytes) => Ok(bytes == text.as_bytes()),
         Err(error) if error.kind() == ErrorKind::NotFound => Ok(true),
         Err(error) => Err(error),
     }

@@ -31,7 +31,7 @@ pub fn split(
     let is_cut = earlier.is_some();
     let before = earlier.unwrap_or(kept.snapshot);
     let next = map.next(at, &before)?;
-    let shards = next.as_ref().map(|next| next.shards_of_cut(at)).transpose()?;
+    let shards = next.as_ref().map(NextMap::shards_of_cut).transpose()?;
     match (own_shard, &shards) {
         (Some(own), Some(shards)) => shards.refuse_other(own, is_cut)?,
         (Some(own), None) => return Err(needs_map(own)),
@@ -99,8 +99,7 @@ pub fn merge(lower: &Path, upper: &Path, new: &Path, map: &MergeMap) -> Done<Don
     }
     let (below, from) = (below.snapshot, from.snapshot);
     let next = map.next(&below, &from)?;
-    let next_at = next.as_ref().zip(map.at());
-    let shards = next_at.map(|(next, at)| next.shards_of_merge(at)).transpose()?;
+    let shards = next.as_ref().map(NextMap::shards_of_merge).transpose()?;
     match (&shards, below.shard.or(from.shard)) {
         (Some(shards), _) => shards.refuse_others([below.shard, from.shard])?,
         (None, Some(own)) => return Err(needs_map(own)),

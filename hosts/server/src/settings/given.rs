@@ -46,11 +46,7 @@ impl Given {
     }
 
     /// The value of a setting.
-    pub fn value<T>(
-        &self,
-        key: &Key,
-        parse: impl FnOnce(&str) -> Option<T>,
-    ) -> Result<T, BadSetting> {
+    pub fn value<T>(&self, key: &Key, parse: fn(&str) -> Option<T>) -> Result<T, BadSetting> {
         self.judged(key, |text| {
             parse(text).ok_or_else(|| format!(", and has to be {}", key.expected))
         })
@@ -60,7 +56,7 @@ impl Given {
     pub fn optional<T>(
         &self,
         key: &Key,
-        parse: impl FnOnce(&str) -> Option<T>,
+        parse: fn(&str) -> Option<T>,
     ) -> Result<Option<T>, BadSetting> {
         let (text, _) = self.text(key);
         if text.is_empty() { Ok(None) } else { self.value(key, parse).map(Some) }
