@@ -33,7 +33,8 @@ pub fn locks(options: &LocksOptions) -> Done {
     Ok(output::print(&page)?)
 }
 
-/// Prints the server's own report on whether it is alive, or ready. The exit status is 1 if it is not.
+/// Prints the server's own report on whether it is alive, or ready. The exit status is 1 if it is
+/// not.
 pub fn health(port: &StatusPort, ready: bool) -> Done<ExitCode> {
     let reply = http::get(port, if ready { READY } else { ALIVE }, TEXT, COMMAND_WAIT)?;
     output::print(&reply.text)?;

@@ -1,15 +1,14 @@
-//! The map of a table at home in etcd or PostgreSQL: how it comes there, and into the files that servers
-//! and clients follow.
+//! The map of a table at home in etcd or PostgreSQL: how it comes there, and into the files that
+//! servers and clients follow.
 use super::next_map;
 use crate::daemon::map_home::Home;
 use crate::process::Done;
 use crate::process::log::Unanswered;
 use crate::process::output::{self, cause};
-use crate::process::replaced_file::NextFile;
+use crate::process::replaced_file;
 use crate::settings::{StorePlace, credentials};
 use clap::Subcommand;
 use krl::{ShardMap, StoreError};
-use std::io;
 use std::path::{Path, PathBuf};
 use std::thread;
 use std::time::Duration;
@@ -136,9 +135,7 @@ fn take(text: &str, file: &Path) -> Done {
     let next = ShardMap::from_toml(text)?;
     let earlier = ShardMap::from_file(file).ok();
     if is_next(earlier.as_ref(), &next).map_err(|why| format!("{} {why}", file.display()))? {
-        let fails = |error: io::Error| format!("{} can't be written: {error}", file.display());
-        let written = NextFile::write(file, &next.to_toml()).and_then(NextFile::take_its_place);
-        written.map_err(fails)?;
+        replaced_file::replace(file, &next.to_toml())?;
         output::report(&format!("{}: the map of version {}", file.display(), version_of(&next)));
     }
     Ok(())

@@ -1,11 +1,11 @@
 //! The changes of a map that have begun, in a file next to it.
 use crate::process::Done;
-use crate::process::replaced_file::{NextFile, beside};
+use crate::process::replaced_file::{self, beside};
 use krl::{Shard, ShardBounds, ShardMap};
 use serde::{Deserialize, Serialize};
 use std::error::Error;
 use std::fs;
-use std::io::{self, ErrorKind};
+use std::io::ErrorKind;
 use std::num::NonZeroU64;
 use std::path::{Path, PathBuf};
 use std::time::UNIX_EPOCH;
@@ -141,11 +141,8 @@ impl MapChanges {
 
     /// Puts them on the disk, next to the map in this file.
     pub fn write(&self, map: &Path) -> Done {
-        let path = path_of(map);
-        let fails = |error: io::Error| format!("{} can't be written: {error}", path.display());
         let text = format!("{NOTE}\n{}", toml::to_string_pretty(self)?);
-        let next = NextFile::write(&path, &text).map_err(fails)?;
-        Ok(next.take_its_place().map_err(fails)?)
+        Ok(replaced_file::replace(&path_of(map), &text)?)
     }
 }
 

@@ -164,7 +164,8 @@ impl NextMap {
     }
 }
 
-/// Whether the file may be given this text: there is none, or a command that was killed has written it.
+/// Whether the file may be given this text: there is none, or a command that was killed has written
+/// it.
 fn may_become(path: &Path, text: &str) -> io::Result<bool> {
     match std::fs::read(path) {
         Ok(bytes) => Ok(bytes == text.as_bytes()),

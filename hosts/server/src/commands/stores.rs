@@ -78,15 +78,15 @@ pub fn set_unused_aside(store: &Path, keys: &Range<u64>) -> Done {
 }
 
 /// Changes a store that this process owns.
-pub fn change<T>(
+pub fn change(
     store: &Path,
-    change: impl FnOnce(&mut SqliteStore) -> Result<T, StoreError>,
-) -> Result<T, String> {
-    let opened = SqliteStore::open(store).and_then(|mut file| {
+    change: impl FnOnce(&mut SqliteStore) -> Result<(), StoreError>,
+) -> Result<(), String> {
+    let changed = SqliteStore::open(store).and_then(|mut file| {
         file.load()?;
         change(&mut file)
     });
-    opened.map_err(|error| cause(&error))
+    changed.map_err(|error| cause(&error))
 }
 
 /// No server starts on the store while this process has it.

@@ -20,8 +20,8 @@ enum News {
     HasEnded { client: u8, waited: Duration },
 }
 
-/// Logs long waits from now on, while the process serves: each once as it becomes long, and once when it
-/// has ended.
+/// Logs long waits from now on, while the process serves: each once as it becomes long, and once
+/// when it has ended.
 pub fn start(role: Role) -> io::Result<()> {
     let mut waits = LongWaits::default();
     role.watch("long-waits", WAITS_PERIOD, move |state| {

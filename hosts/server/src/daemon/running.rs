@@ -58,8 +58,8 @@ pub enum Ended {
 }
 
 impl Daemon<'_> {
-    /// Serves what a store has, until a signal comes, or until `runs` returns false after a wait; or
-    /// until the server has failed by itself.
+    /// Serves what a store has, until a signal comes, or until `runs` returns false after a wait;
+    /// or until the server has failed by itself.
     pub fn serve(
         &self,
         listener: Listener,

@@ -42,6 +42,12 @@ impl Drop for NextFile {
     }
 }
 
+/// Replaces the content of a file.
+pub fn replace(path: &Path, text: &str) -> Result<(), String> {
+    let replaced = NextFile::write(path, text).and_then(NextFile::take_its_place);
+    replaced.map_err(|error| format!("{} can't be written: {error}", path.display()))
+}
+
 /// Returns when the disk has the names of the files in the folder of this one.
 fn sync_folder_of(path: &Path) -> io::Result<()> {
     let folder = path.parent().filter(|folder| !folder.as_os_str().is_empty());
