@@ -63,7 +63,7 @@ pub struct Settings {
 
 /// A setting that can't be used: a sentence for the operator.
 #[derive(Debug, PartialEq, Eq)]
-pub struct BadSetting(String);
+pub struct BadSetting(pub String);
 
 impl Settings {
     /// The settings of these options.
@@ -108,7 +108,7 @@ impl Settings {
 
     /// The status ports of the other servers. One of TLS is shown what this server's clients are.
     pub fn others(&self) -> Result<Vec<StatusPort>, BadSetting> {
-        let named = |error| BadSetting::new(format!("{}: {error}", key::OTHERS.name));
+        let named = |error| BadSetting(format!("{}: {error}", key::OTHERS.name));
         let port = |address| StatusPort::new(address, || self.access.tls()).map_err(named);
         self.others.iter().map(String::as_str).map(port).collect()
     }
@@ -139,12 +139,6 @@ impl fmt::Display for Source {
             Source::File(path) => write!(f, "from the file {}", path.display()),
             Source::Default => f.write_str("by default"),
         }
-    }
-}
-
-impl BadSetting {
-    pub fn new(text: String) -> BadSetting {
-        BadSetting(text)
     }
 }
 

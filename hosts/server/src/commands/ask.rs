@@ -27,7 +27,7 @@ pub fn page(options: &PageOptions, path: &str) -> Done {
 /// Prints who holds what.
 pub fn locks(options: &LocksOptions) -> Done {
     let points = options.lo.unwrap_or(0)..options.hi.unwrap_or(TOP);
-    let question = Question::new(points, options.limit).map_err(BadSetting::new)?;
+    let question = Question::new(points, options.limit).map_err(BadSetting)?;
     let port = options.tls.status_port(&options.status)?;
     let page = http::page(&port, &question.path(), options.format.kind(), LOCKS_WAIT)?;
     Ok(output::print(&page)?)

@@ -17,7 +17,7 @@ pub fn evict(
          its cache"
     ));
     let mut servers: Servers =
-        address.parse().map_err(|error| BadSetting::new(format!("'{address}': {error}")))?;
+        address.parse().map_err(|error| BadSetting(format!("'{address}': {error}")))?;
     if let Some(config) = tls.read()? {
         servers = servers.with_tls(config);
     }

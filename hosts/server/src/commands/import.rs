@@ -20,8 +20,8 @@ struct Added {
 /// Writes the rows of the file to the store, all or none, and reports what it has then.
 pub fn import(file: &Path, is_json: bool, place: &StorePlace, existing: Existing) -> Done {
     let format = if is_json { FileFormat::JsonLines } else { FileFormat::of_name(file) };
-    let lines = read_file(file, format, ValueForm::Text)
-        .map_err(|error| BadSetting::new(error.to_string()))?;
+    let lines =
+        read_file(file, format, ValueForm::Text).map_err(|error| BadSetting(error.to_string()))?;
     let added = match place {
         StorePlace::File(path) if path.exists() => into_store(path, lines, existing)?,
         _ => into_new_store(place, lines)?,

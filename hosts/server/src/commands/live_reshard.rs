@@ -188,18 +188,14 @@ impl LiveChange {
                 (vec![sealed(store, before(*first)?)], new_store, next(*first)?)
             }
         };
-        let ports = self.ports()?;
-        if ports.len() != old.len() {
-            let why = format!("{} status ports are expected, one of each old store", old.len());
-            return Err(BadSetting::new(why).into());
-        }
-        Ok(Stores { old, ports, new: NewStore { place, shard } })
-    }
-
-    fn ports(&self) -> Done<Vec<StatusPort>> {
         let LiveOptions { status, tls, .. } = self.live();
         let ports = status.iter().map(|address| tls.status_port(address));
-        Ok(ports.collect::<Result<_, _>>()?)
+        let ports = ports.collect::<Result<Vec<_>, _>>()?;
+        if ports.len() != old.len() {
+            let why = format!("{} status ports are expected, one of each old store", old.len());
+            return Err(BadSetting(why).into());
+        }
+        Ok(Stores { old, ports, new: NewStore { place, shard } })
     }
 
     /// What the new store has of what the old ones have.

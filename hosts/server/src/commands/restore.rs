@@ -19,7 +19,7 @@ const CLIENTS_LIVE: &str = "\
 /// Writes the backup as a new store on which a server serves at once, and reports what it contains.
 pub fn restore(backup: &Path, store: &StorePlace, are_stopped: bool) -> Done {
     if !are_stopped {
-        return Err(BadSetting::new(CLIENTS_LIVE.to_string()).into());
+        return Err(BadSetting(CLIENTS_LIVE.to_string()).into());
     }
     let file = match store {
         StorePlace::File(path) => Some(path.as_path()),

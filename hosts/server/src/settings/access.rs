@@ -26,12 +26,12 @@ impl AccessSettings {
     pub(super) fn check(&self, name: &str, address: &Address) -> Result<(), BadSetting> {
         if address.is_tls() && !self.tls.are_named() {
             let needed = tls_files::all_are_needed();
-            return Err(BadSetting::new(format!("{name} is '{address}', and {needed}")));
+            return Err(BadSetting(format!("{name} is '{address}', and {needed}")));
         }
         if !address.is_plain_beyond_loopback() || self.lets_in_by_plain {
             return Ok(());
         }
-        Err(BadSetting::new(format!(
+        Err(BadSetting(format!(
             "{name} is '{address}', which other machines reach, and whoever can connect there can \
              speak for any client: use an address that begins with tls:, or give {}",
             key::PLAIN.flag()
@@ -43,7 +43,7 @@ impl AccessSettings {
         if self.users.is_empty() || matches!(listen, Address::Unix(_)) {
             return Ok(());
         }
-        Err(BadSetting::new(format!(
+        Err(BadSetting(format!(
             "{} counts only if {} is an address that begins with unix:, and it is '{listen}'",
             key::USERS.name,
             key::LISTEN.name
@@ -53,7 +53,7 @@ impl AccessSettings {
     /// What the server shows by TLS, if it shows anything. Clients have to believe it now.
     pub fn tls(&self) -> Result<Option<TlsConfig>, BadSetting> {
         let for_server =
-            |read: TlsConfig| read.for_server().map_err(|error| BadSetting::new(error.to_string()));
+            |read: TlsConfig| read.for_server().map_err(|error| BadSetting(error.to_string()));
         self.tls.clone().read()?.map(for_server).transpose()
     }
 

@@ -76,7 +76,7 @@ impl Given {
         let (text, source) = self.text(key);
         parse(text).map_err(|why| {
             let (name, shown) = (key.name, without_password(text));
-            BadSetting::new(format!("{name} is '{shown}' ({source}){why}"))
+            BadSetting(format!("{name} is '{shown}' ({source}){why}"))
         })
     }
 
@@ -99,7 +99,7 @@ impl ConfigFile {
     fn read(path: &Path) -> Result<ConfigFile, BadSetting> {
         let bad_file = |what: &str| {
             let what = what.trim_end();
-            BadSetting::new(format!("the configuration file {}: {what}", path.display()))
+            BadSetting(format!("the configuration file {}: {what}", path.display()))
         };
         let text = std::fs::read_to_string(path).map_err(|error| bad_file(&error.to_string()))?;
         toml::from_str(&text).map_err(|error| bad_file(&error.to_string()))

@@ -26,14 +26,14 @@ impl StatusPort {
             None => (address.strip_prefix(PLAIN).unwrap_or(address), false),
         };
         if !is_place(place) {
-            return Err(BadSetting::new(format!(
+            return Err(BadSetting(format!(
                 "'{address}' is not an address of a status port, such as {} or tls:db1:7401",
                 key::STATUS.default
             )));
         }
         let tls = if is_tls { tls()? } else { None };
         match (is_tls, &tls) {
-            (true, None) => Err(BadSetting::new(format!(
+            (true, None) => Err(BadSetting(format!(
                 "{address} is an address of TLS, and needs --tls-authority, --tls-certificate and \
                  --tls-key"
             ))),

@@ -34,13 +34,13 @@ impl TlsFiles {
             (None, None, None) => Ok(None),
             (Some(authority), Some(certificate), Some(key)) => {
                 let read = TlsConfig::from_files(authority, certificate, key);
-                let read = read.map_err(|error| BadSetting::new(krl_cli::sentence(&error)))?;
+                let read = read.map_err(|error| BadSetting(krl_cli::sentence(&error)))?;
                 Ok(Some(match table {
                     Some(table) => read.for_table(table),
                     None => read,
                 }))
             }
-            _ => Err(BadSetting::new(all_are_needed())),
+            _ => Err(BadSetting(all_are_needed())),
         }
     }
 }
