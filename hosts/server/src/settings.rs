@@ -68,7 +68,11 @@ pub struct BadSetting(pub String);
 impl Settings {
     /// The settings of these options.
     pub fn of(options: &ServeOptions) -> Result<Settings, BadSetting> {
-        let given = Given::of(options)?;
+        let given = options.flags.given.clone();
+        let given = match &options.config {
+            Some(path) => given.with_file(path)?,
+            None => given,
+        };
         let settings = Settings {
             access: AccessSettings::of(&given)?,
             listen: given.value(&key::LISTEN, value::parsed)?,

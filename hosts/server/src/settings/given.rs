@@ -1,6 +1,6 @@
 //! What an operator has given: on the command line, by the environment and in a file.
 use super::key::{Key, Kind};
-use super::{BadSetting, ServeOptions, Source};
+use super::{BadSetting, Source};
 use clap::ArgMatches;
 use clap::parser::ValueSource;
 use krl_postgres::without_password;
@@ -28,15 +28,13 @@ impl Given {
         Given(keys.iter().copied().filter_map(given).collect())
     }
 
-    /// A flag comes first, then the environment, then the configuration file, then the default.
-    pub fn of(options: &ServeOptions) -> Result<Given, BadSetting> {
-        let mut given = options.flags.given.clone();
-        if let Some(path) = options.config.as_deref() {
-            for (name, text) in ConfigFile::read(path)?.0 {
-                given.0.entry(name).or_insert_with(|| (text, Source::File(path.into())));
-            }
+    /// The same with those of a configuration file in addition. A flag comes first, then the
+    /// environment, then the file, then the default.
+    pub fn with_file(mut self, path: &Path) -> Result<Given, BadSetting> {
+        for (name, text) in ConfigFile::read(path)?.0 {
+            self.0.entry(name).or_insert_with(|| (text, Source::File(path.into())));
         }
-        Ok(given)
+        Ok(self)
     }
 
     /// The text of a setting, that by default if it is not given, and where it comes from.
