@@ -208,13 +208,13 @@ fn read(session: &Session, name: &str) -> Result<(TableSql, Stripes), ReadError>
     let read = || -> Result<_, tokio_postgres::Error> {
         let (mark, count): (i32, i32) = (row.try_get(1)?, row.try_get(2)?);
         let by_remainder = row.try_get(3)?;
-        let (encoding, columns): (&str, Vec<String>) = (row.try_get(4)?, row.try_get(5)?);
-        let (key, types): (Vec<String>, Option<Vec<u32>>) = (row.try_get(6)?, row.try_get(7)?);
+        let encoding: &str = row.try_get(4)?;
+        let (key, types): (Vec<String>, Option<Vec<u32>>) = (row.try_get(5)?, row.try_get(6)?);
         let numbers = (u32::try_from(mark).ok(), u32::try_from(count).ok());
-        Ok((row.try_get(0)?, numbers, by_remainder, encoding, columns, key, types))
+        Ok((row.try_get(0)?, numbers, by_remainder, encoding, key, types))
     };
     let read = read().map_err(|error| ReadError::of_database(&error))?;
-    let (table, numbers, by_remainder, encoding, columns, key, types) = read;
+    let (table, numbers, by_remainder, encoding, key, types) = read;
     let (Some(mark), Some(count)) = numbers else { return Err(not_as_cached(name)) };
     let count = NonZeroU32::new(count).ok_or_else(|| not_as_cached(name))?;
     let types = types.unwrap_or_default().into_iter().map(KeyType::of);
@@ -228,7 +228,7 @@ fn read(session: &Session, name: &str) -> Result<(TableSql, Stripes), ReadError>
         )));
     }
     let stripes = Stripes { mark, count, by_remainder };
-    Ok((TableSql::new(table, &columns, &key, types), stripes))
+    Ok((TableSql::new(table, &key, types), stripes))
 }
 
 /// What the database reports if it lacks the extension.

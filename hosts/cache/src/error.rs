@@ -73,6 +73,13 @@ impl ReadError {
         self.sqlstate().is_some_and(|code| code.starts_with("42") && code != refused)
     }
 
+    /// Whether the database refuses a prepared statement, whose columns are those of an earlier table.
+    pub(crate) fn is_of_statement(&self) -> bool {
+        const REFUSALS: [SqlState; 2] =
+            [SqlState::FEATURE_NOT_SUPPORTED, SqlState::INVALID_SQL_STATEMENT_NAME];
+        matches!(self, ReadError::Database { sqlstate: Some(code), .. } if REFUSALS.contains(code))
+    }
+
     /// Whether the database refuses a connection to this role, or has no such database. A database
     /// that is away, starts or has no connection left refuses nothing.
     pub(crate) fn is_refused_connection(&self) -> bool {

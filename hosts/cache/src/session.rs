@@ -15,12 +15,15 @@ use std::sync::Arc;
 use std::time::{Duration, Instant};
 use tokio::runtime::{Builder, Runtime};
 use tokio::time::{sleep, timeout_at};
-use tokio_postgres::error::{Severity, SqlState};
+use tokio_postgres::error::Severity;
 use tokio_postgres::types::ToSql;
 use tokio_postgres::{CancelToken, Client, Error, Statement};
 
 /// This many statements are kept: a table has a few, and new ones when its columns change.
 const MOST_STATEMENTS: usize = 256;
+
+/// This many changes of columns are followed by one question.
+const MOST_CHANGES: usize = 3;
 
 /// The pause before a statement is canceled once again. Of two that were sent together a cancel ends
 /// only the one at which the database works.
@@ -45,8 +48,6 @@ pub(crate) struct Session {
 pub(crate) enum Fate {
     /// The database has answered, or refused. Another connection would get the same.
     Usable,
-    /// Its statements are those of other columns: a new connection has others.
-    Outdated,
     /// It has ended, and has answered nothing.
     Ended,
     /// No answer came in time: the database may still be at work.
@@ -111,6 +112,21 @@ impl Session {
         let token = self.client.cancel_token();
         let Session { runtime, carrier, .. } = self;
         Ending { runtime, token, carrier, lost: Instant::now() + LOST }
+    }
+
+    /// Asks over this connection, and again if a statement was prepared for other columns than the
+    /// table has now.
+    pub fn ask<T>(
+        &mut self,
+        ask: impl Fn(&mut Session) -> Result<T, ReadError>,
+    ) -> Result<T, ReadError> {
+        for _ in 0..MOST_CHANGES {
+            match ask(self) {
+                Err(error) if error.is_of_statement() => self.prepared.clear(),
+                answer => return answer,
+            }
+        }
+        ask(self)
     }
 
     /// The full name of a table that the role's own search path finds by this one.
@@ -242,11 +258,8 @@ fn run<T>(
 /// What becomes of a connection whose question has failed so.
 fn fate_after(error: &Error) -> Fate {
     let Some(reported) = error.as_db_error() else { return Fate::Ended };
-    match (reported.parsed_severity(), reported.code()) {
-        (Some(Severity::Fatal | Severity::Panic), _) => Fate::Ended,
-        (_, &(SqlState::FEATURE_NOT_SUPPORTED | SqlState::INVALID_SQL_STATEMENT_NAME)) => {
-            Fate::Outdated
-        }
+    match reported.parsed_severity() {
+        Some(Severity::Fatal | Severity::Panic) => Fate::Ended,
         _ => Fate::Usable,
     }
 }

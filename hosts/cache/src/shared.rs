@@ -49,8 +49,7 @@ impl Shared {
     }
 
     /// Asks the database over a connection that is free, and once again over a new one if that has
-    /// ended, or its statements are those of other columns. What is refused or late is not asked
-    /// again.
+    /// ended. What is refused or late is not asked again.
     pub fn ask<T>(
         &self,
         ask: impl Fn(&mut Session) -> Result<T, ReadError>,
@@ -58,16 +57,16 @@ impl Shared {
         let end = Instant::now() + self.timeout;
         if let Some(mut session) = pop(&self.idle) {
             session.set_end(end);
-            let answer = ask(&mut session);
+            let answer = session.ask(&ask);
             let fate = session.fate();
             self.put_back(session, fate);
-            if answer.is_ok() || !is_asked_again(fate) {
+            if answer.is_ok() || fate != Fate::Ended {
                 return answer;
             }
         }
         self.wait_for_late(end)?;
         let mut session = Session::connect(&self.connector, end)?;
-        let answer = ask(&mut session);
+        let answer = session.ask(&ask);
         let fate = session.fate();
         self.put_back(session, fate);
         answer
@@ -82,7 +81,6 @@ impl Shared {
                     idle.push(session);
                 }
             }
-            Fate::Outdated => {}
             // The others were made before it.
             Fate::Ended => lock(&self.idle).clear(),
             Fate::Late => self.end_late(session.give_up(), Instant::now() + CANCEL),
@@ -118,11 +116,6 @@ impl Shared {
     pub fn next_definition(&self) -> u64 {
         self.definitions.fetch_add(1, Ordering::Relaxed)
     }
-}
-
-/// Whether another connection may answer what one has not that ends so.
-fn is_asked_again(fate: Fate) -> bool {
-    matches!(fate, Fate::Ended | Fate::Outdated)
 }
 
 fn pop<T>(list: &Mutex<Vec<T>>) -> Option<T> {

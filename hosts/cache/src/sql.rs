@@ -49,11 +49,6 @@ pub(crate) const FULL_NAME: &str = "
 pub(crate) const CACHED: &str = "
     SELECT pg_catalog.format('%I.%I', s.nspname, c.relname), k.mark, k.stripes, k.by_remainder,
         pg_catalog.current_setting('server_encoding'),
-        (SELECT pg_catalog.array_agg(pg_catalog.quote_ident(a.attname::pg_catalog.text)
-                ORDER BY a.attnum)
-            FROM pg_catalog.pg_attribute AS a
-            WHERE a.attrelid OPERATOR(pg_catalog.=) c.oid
-                AND a.attnum OPERATOR(pg_catalog.>) 0 AND NOT a.attisdropped),
         (SELECT pg_catalog.array_agg(pg_catalog.quote_ident(part.name::pg_catalog.text)
                 ORDER BY part.place)
             FROM pg_catalog.unnest(k.key_columns) WITH ORDINALITY AS part (name, place)),
@@ -78,7 +73,8 @@ pub(crate) enum KeyType {
 }
 
 /// How the rows of a table are selected. Each statement has a number of type `bigint` before the
-/// columns of the table.
+/// columns of the table. Those are all that the table has at that moment: PostgreSQL refuses a
+/// prepared statement whose columns have changed.
 #[derive(Debug, PartialEq, Eq)]
 pub(crate) struct TableSql {
     /// The name with its schema, in quotes where it needs them.
@@ -153,9 +149,8 @@ fn integer(value: &KeyValue) -> i64 {
 }
 
 impl TableSql {
-    /// For a table of this name with these columns, some of which are its key. All names are quoted.
-    pub fn new(table: String, columns: &[String], key: &[String], types: Vec<KeyType>) -> TableSql {
-        let columns = columns.join(", t.");
+    /// For a table of this name, and the columns of its key. All names are quoted.
+    pub fn new(table: String, key: &[String], types: Vec<KeyType>) -> TableSql {
         let (mut of_one, mut of_several) = (Vec::new(), Vec::new());
         let (mut arrays, mut names) = (Vec::new(), String::new());
         for (number, (column, of_type)) in (1..).zip(key.iter().zip(&types)) {
@@ -168,13 +163,13 @@ impl TableSql {
         let (of_one, of_several) = (of_one.join(" AND "), of_several.join(" AND "));
         let (arrays, first) = (arrays.join(", "), key.first().map_or("", |column| column));
         TableSql {
-            one: format!("SELECT 1::bigint, t.{columns} FROM {table} AS t WHERE {of_one}"),
+            one: format!("SELECT 1::bigint, t.* FROM {table} AS t WHERE {of_one}"),
             several: format!(
-                "SELECT k.place, t.{columns} FROM ROWS FROM ({arrays}) WITH ORDINALITY
+                "SELECT k.place, t.* FROM ROWS FROM ({arrays}) WITH ORDINALITY
                  AS k ({names}place) JOIN {table} AS t ON {of_several}"
             ),
             range: format!(
-                "SELECT t.{first}::bigint, t.{columns} FROM {table} AS t
+                "SELECT t.{first}::bigint, t.* FROM {table} AS t
                  WHERE t.{first} OPERATOR(pg_catalog.>=) $1::bigint
                  AND t.{first} OPERATOR(pg_catalog.<=) $2::bigint ORDER BY t.{first}"
             ),
@@ -236,9 +231,8 @@ mod tests {
     use crate::row::tests::row;
 
     fn table() -> TableSql {
-        let columns = ["country", "\"the code\"", "n"].map(str::to_string);
-        let types = vec![KeyType::Text, KeyType::Uuid];
-        TableSql::new("public.place".to_string(), &columns, &columns[..2], types)
+        let key = ["country", "\"the code\""].map(str::to_string);
+        TableSql::new("public.place".to_string(), &key, vec![KeyType::Text, KeyType::Uuid])
     }
 
     #[test]
@@ -249,7 +243,7 @@ mod tests {
         assert_eq!(values.len(), 2);
         assert_eq!(
             one,
-            "SELECT 1::bigint, t.country, t.\"the code\", t.n FROM public.place AS t \
+            "SELECT 1::bigint, t.* FROM public.place AS t \
              WHERE t.country OPERATOR(pg_catalog.=) $1::pg_catalog.text::pg_catalog.text \
              AND t.\"the code\" OPERATOR(pg_catalog.=) $2::pg_catalog.text::pg_catalog.uuid"
         );

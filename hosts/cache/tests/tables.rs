@@ -212,29 +212,65 @@ fn what_was_lost_is_loaded_with_a_miss() {
     cache.close();
 }
 
+/// Changes of a table, and the last of its columns after each.
+const CHANGES: [(&str, &str); 4] = [
+    ("ALTER TABLE item ADD COLUMN weight bigint DEFAULT 5", "weight int8"),
+    ("ALTER TABLE item ALTER COLUMN weight TYPE text", "weight text"),
+    ("ALTER TABLE item RENAME COLUMN weight TO mass", "mass text"),
+    ("ALTER TABLE item DROP COLUMN mass", "price int8"),
+];
+
+fn last_column(row: Option<Row>) -> String {
+    let row = row.unwrap();
+    let last = row.columns().last().unwrap();
+    format!("{} {}", last.name(), last.sql_type())
+}
+
+/// The last column of a row that was in memory, and of others that were not.
+fn last_columns(items: &Table) -> [String; 5] {
+    let all = [
+        items.get(3).unwrap(),
+        items.get(20).unwrap(),
+        items.get_many([3, 21]).unwrap().pop().flatten(),
+        items.rows(22).unwrap().pop(),
+        items.range(..).unwrap().pop(),
+    ];
+    all.map(last_column)
+}
+
+#[test]
+fn a_row_that_is_not_kept_has_the_columns_of_its_table_at_once() {
+    let Some(site) = Site::start() else { return };
+    let cache = site.cache();
+    let items = cache.table("item").unwrap();
+    // Nothing is quiet as long as the cluster is suspended. After that the table is not cached.
+    for state in ["INSERT INTO krl.notices VALUES (0)", "DELETE FROM krl.cached"] {
+        site.sql.run(state);
+        assert_eq!(last_columns(&items), ["price int8"; 5]);
+        for (change, expected) in CHANGES {
+            site.sql.run(change);
+            assert_eq!(last_columns(&items), [expected; 5], "{change}");
+        }
+    }
+    assert_eq!(items.statistics().kept, 0);
+    cache.close();
+}
+
 #[test]
 fn a_changed_definition_is_found() {
     let Some(site) = Site::start() else { return };
     let cache = site.cache();
     let items = cache.table("item").unwrap();
     from_memory(&items, |items| items.get(3).unwrap());
-    site.define(2, "ALTER TABLE item ADD COLUMN weight bigint DEFAULT 5");
-    wait_until("the new column is read", || {
-        let row = items.get(3).unwrap().unwrap();
-        row.columns().iter().any(|column| column.name() == "weight")
-    });
-    from_memory(&items, |items| items.get(3).unwrap());
-    site.define(3, "ALTER TABLE item ALTER COLUMN weight TYPE text");
-    let weight = |row: Option<Row>| row.unwrap().get::<String>("weight").unwrap();
-    assert_eq!(weight(items.get(3).unwrap()), "5");
-    assert_eq!(weight(from_memory(&items, |items| items.get(3).unwrap())), "5");
-    site.define(4, "ALTER TABLE item DROP COLUMN weight, DROP COLUMN price");
-    assert_eq!(items.get(3).unwrap().unwrap().columns().len(), 2);
-    from_memory(&items, |items| items.get(3).unwrap());
+    for (nonce, (change, expected)) in (2..).zip(CHANGES) {
+        site.define(nonce, change);
+        assert_eq!(last_columns(&items), [expected; 5], "at once");
+        assert_eq!(last_column(from_memory(&items, |items| items.get(3).unwrap())), expected);
+    }
 
     // Another table has the name, and is not cached.
     site.define(
-        5,
+        9,
         "ALTER TABLE item RENAME TO earlier;
          CREATE TABLE item (id integer PRIMARY KEY, name text);
          INSERT INTO item VALUES (3, 'of another table')",
@@ -270,8 +306,7 @@ fn a_definition_that_is_about_to_change_is_found_again() {
         site.sql.run(&format!(
             "ALTER TABLE item ADD COLUMN of{columns} bigint; DELETE FROM krl.notices"
         ));
-        let now = |row: Option<Row>| row.unwrap().columns().len();
-        wait_until("the new column is read", || now(items.get(3).unwrap()) == columns);
+        assert_eq!(items.get(3).unwrap().unwrap().columns().len(), columns);
     }
     from_memory(&items, |items| items.get(3).unwrap());
     cache.close();

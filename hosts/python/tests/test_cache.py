@@ -176,9 +176,9 @@ class TableTest(Site):
         items = self.cache().table("note")
         self.assertEqual(items.get_all("grace"), [{"author": "grace", "body": "three"}])
         self.ask("define 2 ALTER TABLE note ADD COLUMN day date")
-        until(lambda: items.get_all("grace") == [{"author": "grace", "body": "three", "day": None}])
+        self.assertEqual(items.get_all("grace"), [{"author": "grace", "body": "three", "day": None}])
         self.ask("define 3 ALTER TABLE note DROP COLUMN day")
-        until(lambda: items.get_all("grace") == [{"author": "grace", "body": "three"}])
+        self.assertEqual(items.get_all("grace"), [{"author": "grace", "body": "three"}])
 
     def test_wrong_arguments_are_refused(self) -> None:
         cache = self.cache()
