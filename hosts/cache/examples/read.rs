@@ -24,7 +24,7 @@ fn run(database: PostgresAddress, key: i64) -> Result<(), Box<dyn Error>> {
         thread::sleep(PAUSE_BETWEEN_READS);
     }
     println!("{:?}", items.statistics());
-    let fault = cache.fault();
+    let fault = items.fault();
     cache.close();
     fault.map_or(Ok(()), |fault| Err(fault.into()))
 }

@@ -125,10 +125,13 @@ impl Cache {
     /// that of this name in the schema in which it was found. Each call begins with empty memory, so
     /// a program keeps what it returns, and clones it.
     ///
+    /// A table that is not cached is read from the database, by its primary key. Its rows are kept
+    /// after `krl.cache` was called.
+    ///
     /// # Errors
     ///
-    /// [`ReadError::NotCached`], [`ReadError::NoExtension`], [`ReadError::Database`];
-    /// [`ReadError::Key`] if the columns of the key have changed since the table was cached.
+    /// [`ReadError::NoExtension`], [`ReadError::Database`]; [`ReadError::Key`] if the columns of the
+    /// key have changed since the table was cached, or if it is not cached and has no primary key.
     pub fn table(&self, name: &str) -> Result<Table, ReadError> {
         Table::open(Arc::clone(&self.shared), self.errands.clone(), name)
     }

@@ -8,9 +8,9 @@ use crate::rows::{Loaded, Rows};
 use crate::session::{Quiet, Session};
 use crate::sql::{CACHED, KeyType, QUIET_DEFINITION, Selection, TableSql};
 use std::cell::LazyCell;
+use std::collections::BTreeSet;
 use std::num::NonZeroU32;
 use std::sync::Arc;
-use tokio_postgres::error::SqlState;
 
 /// The encodings in which a text has the same bytes in the database as in a program.
 const ENCODINGS: [&str; 2] = ["UTF8", "SQL_ASCII"];
@@ -24,6 +24,8 @@ const NO_TENURE: u64 = u64::MAX;
 pub(crate) struct Definition {
     pub number: u64,
     pub sql: TableSql,
+    /// Nothing is kept of a table that is not cached.
+    pub is_cached: bool,
     pub stripes: Stripes,
     pub memory: Memory,
     holding: Option<Holding>,
@@ -51,6 +53,9 @@ pub(crate) struct Look<'d> {
     marks: MarkTenures,
 }
 
+/// What a load returns, and why the extension has not answered, if it has not.
+pub(crate) type Load = (Vec<Loaded>, Option<ReadError>);
+
 impl Definition {
     /// Finds the definition of the table of this full name. Rows are kept by what is held, unless a
     /// transaction is about to change the definition: then it has to be found again.
@@ -63,19 +68,20 @@ impl Definition {
     ) -> Result<Definition, ReadError> {
         let (mut sql, mut stripes) = read(session, name)?;
         let mut held = None;
-        if let Some(holding) = holding {
-            let (nonce, mark) = (holding.marks.nonce, stripes.mark.cast_signed());
-            let asked = session.query(QUIET_DEFINITION, &[&nonce, &sql.table, &mark])?;
+        if let (Some(holding), Some(stripes_then)) = (holding, stripes) {
+            let (nonce, mark) = (holding.marks.nonce, stripes_then.mark.cast_signed());
+            let asked = session.ask_extension(QUIET_DEFINITION, &[&nonce, &sql.table, &mark])?;
             // What is read after the question shows each change that was made before it.
-            let (sql_then, stripes_then) = (sql, stripes);
+            let sql_then = sql;
             (sql, stripes) = read(session, name)?;
             let is_quiet = asked.first().is_some_and(|row| row.try_get(0).unwrap_or(false));
-            let is_same = sql == sql_then && stripes == stripes_then;
-            let holds_mark = holding.marks.of_table == stripes.mark;
+            let is_same = sql == sql_then && stripes == Some(stripes_then);
+            let holds_mark = holding.marks.of_table == stripes_then.mark;
             held = (is_quiet && is_same && holds_mark).then_some(holding);
         }
+        let (is_cached, stripes) = (stripes.is_some(), stripes.unwrap_or(Stripes::OF_NO_CACHE));
         let memory = Memory::new(stripes.count.get(), memory);
-        Ok(Definition { number, sql, stripes, memory, holding: held })
+        Ok(Definition { number, sql, is_cached, stripes, memory, holding: held })
     }
 
     /// The place of a key, if it is one of this table.
@@ -156,14 +162,18 @@ impl Definition {
         session: &mut Session,
         wanted: &[Wanted<'_>],
         selection: &Selection<'_>,
-    ) -> Result<Vec<Loaded>, ReadError> {
+    ) -> Result<Load, ReadError> {
         let stripes: Vec<Stripe> = wanted.iter().map(|wanted| wanted.stripe).collect();
         let nonce = self.holding.as_ref().map_or(0, |holding| holding.marks.nonce);
         let held = self.look();
         let held = |stripe| held.and_then(|look| look.held(stripe));
-        let (rows, kept) = held::load(&stripes, held, |asked| {
+        let ((rows, fault), kept) = held::load(&stripes, held, |asked| {
             let quiet = Quiet { nonce, mark: self.stripes.mark, stripes: asked };
-            session.select_if_quiet(&self.sql, &quiet, selection)
+            let selected = session.select_if_quiet(&self.sql, &quiet, selection);
+            selected.map(|(quiet, rows)| match quiet {
+                Ok(quiet) => (quiet, (rows, None)),
+                Err(fault) => (BTreeSet::new(), (rows, Some(fault))),
+            })
         })?;
         let loaded = selection.by_key(rows).into_iter().zip(kept).zip(wanted);
         let now = self.look();
@@ -171,7 +181,7 @@ impl Definition {
             let held = self.keep(wanted, &rows, held, now);
             (rows, held)
         };
-        Ok(loaded.map(keep).collect())
+        Ok((loaded.map(keep).collect(), fault))
     }
 
     /// Keeps rows by what they were held by, unless they were lost meanwhile.
@@ -201,48 +211,56 @@ impl Look<'_> {
     }
 }
 
-/// Reads how the table of this name is selected, and by which stripes it is cached.
-fn read(session: &Session, name: &str) -> Result<(TableSql, Stripes), ReadError> {
-    let found = session.query(CACHED, &[&name]).map_err(without_extension)?;
-    let row = found.first().ok_or_else(|| ReadError::NotCached(name.to_string()))?;
+/// Reads how the table of this name is selected, and by which stripes it is cached if it is.
+fn read(session: &Session, name: &str) -> Result<(TableSql, Option<Stripes>), ReadError> {
+    let found = session.ask_extension(CACHED, &[&name])?;
+    let row = found.first().ok_or_else(|| ReadError::no_table(name))?;
     let read = || -> Result<_, tokio_postgres::Error> {
-        let (mark, count): (i32, i32) = (row.try_get(1)?, row.try_get(2)?);
-        let by_remainder = row.try_get(3)?;
-        let encoding: &str = row.try_get(4)?;
-        let (key, types): (Vec<String>, Option<Vec<u32>>) = (row.try_get(5)?, row.try_get(6)?);
-        let numbers = (u32::try_from(mark).ok(), u32::try_from(count).ok());
-        Ok((row.try_get(0)?, numbers, by_remainder, encoding, key, types))
+        let stripes = stripes_of(row.try_get(1)?, row.try_get(2)?, row.try_get(3)?);
+        let (key, types): (Vec<String>, Vec<u32>) = (row.try_get(5)?, row.try_get(6)?);
+        Ok((row.try_get(0)?, stripes, row.try_get(4)?, key, types))
     };
     let read = read().map_err(|error| ReadError::of_database(&error))?;
-    let (table, numbers, by_remainder, encoding, key, types) = read;
-    let (Some(mark), Some(count)) = numbers else { return Err(not_as_cached(name)) };
-    let count = NonZeroU32::new(count).ok_or_else(|| not_as_cached(name))?;
-    let types = types.unwrap_or_default().into_iter().map(KeyType::of);
-    let types: Option<Vec<KeyType>> = types.collect();
-    let types = types.filter(|types| types.len() == key.len());
-    let types = types.ok_or_else(|| not_as_cached(name))?;
+    let (table, stripes, encoding, key, types): (_, _, &str, _, _) = read;
+    let types: Option<Vec<KeyType>> = types.into_iter().map(KeyType::of).collect();
+    let types = types.filter(|types| !types.is_empty() && types.len() == key.len());
+    let types = types.ok_or_else(|| ReadError::Key(without_key(name, stripes.is_some())))?;
     if types.contains(&KeyType::Text) && !ENCODINGS.contains(&encoding) {
         return Err(ReadError::Key(format!(
             "the key of {name} is a text, and the encoding of the database is {encoding}: it has \
              to be UTF8"
         )));
     }
-    let stripes = Stripes { mark, count, by_remainder };
     Ok((TableSql::new(table, &key, types), stripes))
 }
 
-/// What the database reports if it lacks the extension.
-fn without_extension(error: ReadError) -> ReadError {
-    match error {
-        ReadError::Database { sqlstate: Some(SqlState::UNDEFINED_TABLE), .. } => {
-            ReadError::NoExtension
-        }
-        error => error,
-    }
+/// The stripes of a table that is cached.
+fn stripes_of(
+    mark: Option<i32>,
+    count: Option<i32>,
+    by_remainder: Option<bool>,
+) -> Option<Stripes> {
+    let (mark, count) = (u32::try_from(mark?).ok()?, u32::try_from(count?).ok()?);
+    Some(Stripes { mark, count: NonZeroU32::new(count)?, by_remainder: by_remainder? })
 }
 
-fn not_as_cached(table: &str) -> ReadError {
-    ReadError::Key(format!(
-        "the key of {table} has changed since it was cached: call krl.uncache and krl.cache"
-    ))
+/// Why the rows of a table are not kept that is not cached.
+pub(crate) fn not_cached(table: &str) -> String {
+    let quoted = table.replace('\'', "''");
+    format!(
+        "the table {table} is not cached: call SELECT krl.cache('{quoted}') in the database, as a \
+         superuser"
+    )
+}
+
+fn without_key(table: &str, is_cached: bool) -> String {
+    if is_cached {
+        return format!(
+            "the key of {table} has changed since it was cached: call krl.uncache and krl.cache"
+        );
+    }
+    format!(
+        "the table {table} is not cached, and cannot be read either: it has no primary key of \
+         columns of type smallint, integer, bigint, text, varchar or uuid"
+    )
 }

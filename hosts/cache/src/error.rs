@@ -18,9 +18,7 @@ pub enum ReadError {
         /// What it reported, or what happened.
         why: String,
     },
-    /// The table is not cached: an operator calls `krl.cache` in the database.
-    NotCached(String),
-    /// The database has no extension `krl`.
+    /// The database has no extension `krl`, or one of another version.
     NoExtension,
     /// The key is not one of the table, for this reason.
     Key(String),
@@ -53,6 +51,28 @@ impl ReadError {
     /// The database has not answered in time.
     pub(crate) fn late() -> ReadError {
         ReadError::without_code("no answer came in time".to_string())
+    }
+
+    /// There is no table of this name any more.
+    pub(crate) fn no_table(name: &str) -> ReadError {
+        let why = format!("relation \"{name}\" does not exist");
+        ReadError::Database { sqlstate: Some(SqlState::UNDEFINED_TABLE), why }
+    }
+
+    /// The same, of a question to the extension, which is not there or is one of another version.
+    pub(crate) fn of_extension(self) -> ReadError {
+        const MISSING: [SqlState; 4] = [
+            SqlState::INVALID_SCHEMA_NAME,
+            SqlState::UNDEFINED_TABLE,
+            SqlState::UNDEFINED_COLUMN,
+            SqlState::UNDEFINED_FUNCTION,
+        ];
+        match self {
+            ReadError::Database { sqlstate: Some(code), .. } if MISSING.contains(&code) => {
+                ReadError::NoExtension
+            }
+            other => other,
+        }
     }
 
     /// The same, of an attempt to connect there.
@@ -113,14 +133,12 @@ impl fmt::Display for ReadError {
     fn fmt(&self, f: &mut fmt::Formatter<'_>) -> fmt::Result {
         match self {
             ReadError::Database { why, .. } => write!(f, "the database: {why}"),
-            ReadError::NotCached(table) => write!(
-                f,
-                "the table {table} is not cached: call SELECT krl.cache('{table}') in the database, \
-                 as a superuser"
-            ),
-            ReadError::NoExtension => f.write_str(
-                "the database has no extension krl: call CREATE EXTENSION krl there, as a superuser",
-            ),
+            ReadError::NoExtension => f.write_str(concat!(
+                "the database has no extension krl of version ",
+                env!("CARGO_PKG_VERSION"),
+                ": install it there, and call CREATE EXTENSION krl, or ALTER EXTENSION krl UPDATE, \
+                 as a superuser",
+            )),
             ReadError::Key(why) | ReadError::Column(why) => f.write_str(why),
             ReadError::SeveralRows(key) => {
                 write!(f, "the key {key} has several rows: read them by Table::rows")

@@ -93,6 +93,10 @@ impl KeyValue {
 }
 
 impl Stripes {
+    /// The one of a table that is not cached. Nobody holds it.
+    pub const OF_NO_CACHE: Stripes =
+        Stripes { mark: 0, count: NonZeroU32::MIN, by_remainder: false };
+
     /// The stripe of a key, as the extension computes it.
     pub fn of(&self, key: &Key) -> Stripe {
         let count = self.count.get();

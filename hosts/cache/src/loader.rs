@@ -1,22 +1,24 @@
 //! Holds and loads what was missing, on a thread of its own: a read that misses is answered by the
 //! database at once, and waits for nobody.
-use crate::definition::{Definition, Holding, Wanted};
+use crate::definition::{Definition, Holding, Wanted, not_cached};
 use crate::error::ReadError;
 use crate::key::Key;
-use crate::locks::{IsClosed, KrlPlace, Locks};
+use crate::locks::{IsClosed, KrlPlace, Locks, Marks};
 use crate::shared::Shared;
 use crate::sql::{SERVERS, Selection};
 use crate::table::{Errand, Inner};
-use krl::ErrorKind;
+use krl::{ErrorKind, JoinError, JoinErrorKind};
 use std::collections::{HashMap, HashSet, VecDeque};
 use std::fmt::Display;
+use std::io;
 use std::iter;
 use std::sync::Arc;
 use std::sync::mpsc::{Receiver, RecvTimeoutError};
 use std::time::{Duration, Instant};
 
-/// The pause before another attempt to join krl.
-const PAUSE_BETWEEN_JOINS: Duration = Duration::from_millis(500);
+/// The pause before another attempt to join krl, and before a table is looked at again that is not
+/// cached.
+const PAUSE_BETWEEN_TRIES: Duration = Duration::from_millis(500);
 
 /// How often the database is asked whether the role may still connect, and lost connections are
 /// closed.
@@ -56,6 +58,25 @@ enum Fault {
 impl Fault {
     fn of_cache(why: &impl Display) -> Fault {
         Fault::Cache(why.to_string())
+    }
+
+    /// The process has not joined krl. Its user may have no right to the server's socket, or to the
+    /// number.
+    fn of_join(why: &JoinError) -> Fault {
+        let is_refused = match &why.kind {
+            JoinErrorKind::TurnedAway(_) => true,
+            JoinErrorKind::NoAnswer { fault: Some(fault), .. } => {
+                fault.kind() == io::ErrorKind::PermissionDenied
+            }
+            _ => false,
+        };
+        if !is_refused {
+            return Fault::of_cache(why);
+        }
+        Fault::Cache(format!(
+            "{why}. At a Unix socket, the setting krl.server_users of PostgreSQL gives a user of the \
+             machine its numbers"
+        ))
     }
 
     /// What the database has reported as it was asked for a table.
@@ -170,12 +191,13 @@ impl Loader {
         stripes.sort_unstable();
         stripes.dedup();
         let held = locks.hold(&stripes);
-        held.map_err(|error| self.refused(error))?;
+        held.map_err(|error| self.refused(&locks, error))?;
         let selection = Selection::Keys(wanted.iter().map(|wanted| wanted.key).collect());
         let load = |session: &mut _| definition.load(session, &wanted, &selection);
-        let loaded = self.shared.ask(load).map_err(|error| Fault::of_table(&error))?;
-        table.note_load(&loaded);
-        Ok(())
+        let loaded = self.shared.ask(load).map_err(|error| Fault::of_table(&error));
+        let (loaded, fault) = loaded?;
+        table.note_load(&loaded, fault.as_ref());
+        fault.map_or(Ok(()), |fault| Err(Fault::of_table(&fault)))
     }
 
     /// krl's locks. It joins if it has not.
@@ -188,7 +210,7 @@ impl Loader {
             return Err(Fault::Cache(why.unwrap_or_else(|| "krl has not been joined yet".into())));
         }
         let joined = self.join();
-        self.next_join = Instant::now() + PAUSE_BETWEEN_JOINS;
+        self.next_join = Instant::now() + PAUSE_BETWEEN_TRIES;
         let locks = Arc::new(joined?);
         self.shared.locks.put(&locks).inspect_err(|IsClosed| locks.leave())?;
         Ok(locks)
@@ -196,40 +218,53 @@ impl Loader {
 
     fn join(&self) -> Result<Locks, Fault> {
         self.may_connect().map_err(Fault::Cache)?;
-        let asked = self.shared.ask(|session| session.query(SERVERS, &[]));
+        let asked = self.shared.ask(|session| session.ask_extension(SERVERS, &[]));
         let asked = asked.map_err(|error| Fault::of_cache(&error))?;
         let servers = asked.first().and_then(|row| row.try_get::<_, &str>(0).ok());
         let servers = servers.ok_or_else(|| Fault::of_cache(&"krl.servers() returns nothing"))?;
         let servers = servers.parse().map_err(|error| Fault::of_cache(&error))?;
-        Locks::join(servers, &self.place).map_err(|error| Fault::of_cache(&error))
+        Locks::join(servers, &self.place).map_err(|error| Fault::of_join(&error))
     }
 
     /// The definition of the table, which is found again if it may be another one: and once more if
-    /// the table was cached again meanwhile, by another mark.
+    /// the table was cached meanwhile, or by another mark.
     fn definition(&mut self, table: &Inner, locks: &Arc<Locks>) -> Result<Arc<Definition>, Fault> {
         let mut definition = table.definition();
         if definition.is_current(locks) {
             return Ok(definition);
         }
+        if Instant::now() < *table.next_look() {
+            return Err(Fault::Table(not_cached(&definition.sql.table)));
+        }
         for _ in 0..2 {
-            let of_table = definition.stripes.mark;
-            let marks = locks.hold_marks(of_table).map_err(|error| self.refused(error))?;
-            let marks =
-                marks.ok_or_else(|| Fault::of_cache(&"the extension has not set krl's mark"))?;
-            let found = table.find(|| Some(Holding { locks: Arc::clone(locks), marks }));
-            definition = found.map(|it| table.set(it)).map_err(|error| Fault::of_table(&error))?;
-            if definition.stripes.mark == of_table {
+            let of_table = definition.is_cached.then_some(definition.stripes.mark);
+            let marks = of_table.map(|mark| self.marks(locks, mark)).transpose()?;
+            let hold = || Some(Holding { locks: Arc::clone(locks), marks: marks? });
+            let found = table.find(hold).map_err(|error| Fault::of_table(&error))?;
+            if !found.is_cached {
+                *table.next_look() = Instant::now() + PAUSE_BETWEEN_TRIES;
+                return Err(Fault::Table(not_cached(&found.sql.table)));
+            }
+            definition = table.set(found);
+            if of_table == Some(definition.stripes.mark) {
                 break;
             }
         }
         Ok(definition)
     }
 
+    fn marks(&mut self, locks: &Locks, of_table: u32) -> Result<Marks, Fault> {
+        let marks = locks.hold_marks(of_table).map_err(|error| self.refused(locks, error))?;
+        marks.ok_or_else(|| Fault::of_cache(&"the extension has not set krl's mark"))
+    }
+
     /// krl has refused a call. It is joined again if that may help: a client stays with the store
-    /// that it has seen.
-    fn refused(&mut self, error: krl::Error) -> Fault {
+    /// that it has seen. A lock that others hold is a fault of this table only.
+    fn refused(&mut self, locks: &Locks, error: krl::Error) -> Fault {
         if error.kind != ErrorKind::TimedOut {
             self.shared.locks.leave();
+        } else if locks.is_connected() {
+            return Fault::Table(error.to_string());
         }
         Fault::of_cache(&error)
     }
@@ -257,5 +292,28 @@ impl Loader {
         });
         keys.truncate(MOST_KEYS_AHEAD);
         keys
+    }
+}
+
+#[cfg(test)]
+mod tests {
+    use super::*;
+
+    #[test]
+    fn who_may_not_join_learns_by_which_setting_it_may() {
+        let no_answer = |kind: io::ErrorKind| JoinErrorKind::NoAnswer {
+            servers: Box::new("unix:/run/krl.socket".parse().unwrap()),
+            fault: Some(kind.into()),
+        };
+        for (kind, expected) in [
+            (JoinErrorKind::TurnedAway("its user has no right".to_string()), true),
+            (no_answer(io::ErrorKind::PermissionDenied), true),
+            (no_answer(io::ErrorKind::ConnectionReset), false),
+        ] {
+            let error = JoinError::from(kind);
+            let Fault::Cache(why) = Fault::of_join(&error) else { panic!() };
+            assert!(why.starts_with(&error.to_string()), "{why}");
+            assert_eq!(why.contains("krl.server_users"), expected, "{why}");
+        }
     }
 }

@@ -109,6 +109,11 @@ impl Locks {
         Ok(())
     }
 
+    /// Whether krl's server is there.
+    pub fn is_connected(&self) -> bool {
+        self.client.status().iter().all(|shard| shard.is_connected)
+    }
+
     /// What was called back since the last call.
     pub fn take_called_back(&self) -> Vec<Range<u64>> {
         self.client.take_called_back()

@@ -22,7 +22,7 @@ use tokio_postgres::{CancelToken, Client, Error, Statement};
 /// This many statements are kept: a table has a few, and new ones when its columns change.
 const MOST_STATEMENTS: usize = 256;
 
-/// This many changes of columns are followed by one question.
+/// A question is repeated after this many changes of columns.
 const MOST_CHANGES: usize = 3;
 
 /// The pause before a statement is canceled once again. Of two that were sent together a cancel ends
@@ -79,8 +79,9 @@ pub(crate) struct Quiet<'s> {
     pub stripes: &'s BTreeSet<Stripe>,
 }
 
-/// The stripes that are quiet, and rows that were selected after that.
-type Selected = (BTreeSet<Stripe>, Vec<(i64, Row)>);
+/// The stripes that are quiet, or why the extension has not answered; and rows that were selected
+/// after that.
+type Selected = (Result<BTreeSet<Stripe>, ReadError>, Vec<(i64, Row)>);
 
 impl Session {
     /// Connects, unless that takes longer.
@@ -154,6 +155,15 @@ impl Session {
         self.run(self.client.query(sql, values))
     }
 
+    /// The rows of an answer of the extension.
+    pub fn ask_extension(
+        &self,
+        sql: &str,
+        values: &[&(dyn ToSql + Sync)],
+    ) -> Result<Vec<tokio_postgres::Row>, ReadError> {
+        self.query(sql, values).map_err(ReadError::of_extension)
+    }
+
     /// Selects rows.
     pub fn select(
         &mut self,
@@ -166,17 +176,19 @@ impl Session {
         rows_of(&columns, &self.run(self.client.query(&statement, &values))?)
     }
 
-    /// Asks which of these stripes are quiet, and selects rows after that. If the extension does not
-    /// answer, none is.
+    /// Asks which of these stripes are quiet, and selects rows after that.
     pub fn select_if_quiet(
         &mut self,
         sql: &TableSql,
         quiet: &Quiet<'_>,
         selection: &Selection<'_>,
     ) -> Result<Selected, ReadError> {
-        let asking = if quiet.stripes.is_empty() { None } else { self.prepare(QUIET).ok() };
-        let Some(asking) = asking else {
-            return Ok((BTreeSet::new(), self.select(sql, selection)?));
+        if quiet.stripes.is_empty() {
+            return Ok((Ok(BTreeSet::new()), self.select(sql, selection)?));
+        }
+        let asking = match self.prepare(QUIET) {
+            Ok(asking) => asking,
+            Err(error) => return Ok((Err(error.of_extension()), self.select(sql, selection)?)),
         };
         let (text, values) = selection.statement(sql);
         let Prepared { statement, columns } = self.prepare(text)?;
@@ -190,12 +202,11 @@ impl Session {
             let asking = self.client.query(&asking.statement, &of_quiet);
             let selecting = self.client.query(&statement, &of_selection);
             let (quiet, rows) = join(asking, selecting).await;
-            Ok((quiet.unwrap_or_default(), rows?))
+            Ok((quiet.and_then(|answer| stripes_of(&answer)), rows?))
         };
         let (quiet, rows) = self.run(both)?;
-        let quiet = quiet.first().and_then(|row| row.try_get::<_, Vec<i32>>(0).ok());
-        let quiet = quiet.into_iter().flatten().map(|stripe| Stripe(stripe.cast_unsigned()));
-        Ok((quiet.collect(), rows_of(&columns, &rows)?))
+        let quiet = quiet.map_err(|error| ReadError::of_database(&error).of_extension());
+        Ok((quiet, rows_of(&columns, &rows)?))
     }
 
     fn prepare(&mut self, sql: &str) -> Result<Prepared, ReadError> {
@@ -266,6 +277,12 @@ fn fate_after(error: &Error) -> Fate {
 
 fn borrowed<'v>(values: &'v Values<'_>) -> Vec<&'v (dyn ToSql + Sync)> {
     values.iter().map(|value| &**value as &(dyn ToSql + Sync)).collect()
+}
+
+/// The stripes of an answer.
+fn stripes_of(answer: &[tokio_postgres::Row]) -> Result<BTreeSet<Stripe>, Error> {
+    let stripes: Vec<i32> = answer.first().map_or(Ok(Vec::new()), |row| row.try_get(0))?;
+    Ok(stripes.into_iter().map(|stripe| Stripe(stripe.cast_unsigned())).collect())
 }
 
 /// The number and the row of each row of an answer.

@@ -45,21 +45,33 @@ pub(crate) const FULL_NAME: &str = "
         JOIN pg_catalog.pg_namespace AS s ON s.oid OPERATOR(pg_catalog.=) c.relnamespace
     WHERE c.oid OPERATOR(pg_catalog.=) $1::pg_catalog.text::pg_catalog.regclass";
 
-/// Finds how a table is cached, by its full name.
+/// Finds how a table is cached, by its full name. The key of one that is not cached is its primary
+/// key, which `krl.cache` takes by default.
 pub(crate) const CACHED: &str = "
     SELECT pg_catalog.format('%I.%I', s.nspname, c.relname), k.mark, k.stripes, k.by_remainder,
         pg_catalog.current_setting('server_encoding'),
-        (SELECT pg_catalog.array_agg(pg_catalog.quote_ident(part.name::pg_catalog.text)
-                ORDER BY part.place)
-            FROM pg_catalog.unnest(k.key_columns) WITH ORDINALITY AS part (name, place)),
-        (SELECT pg_catalog.array_agg(a.atttypid ORDER BY part.place)
-            FROM pg_catalog.unnest(k.key_columns) WITH ORDINALITY AS part (name, place)
+        ARRAY(SELECT pg_catalog.quote_ident(part.name::pg_catalog.text)
+            FROM pg_catalog.unnest(key.columns) WITH ORDINALITY AS part (name, place)
+            ORDER BY part.place),
+        ARRAY(SELECT a.atttypid
+            FROM pg_catalog.unnest(key.columns) WITH ORDINALITY AS part (name, place)
                 JOIN pg_catalog.pg_attribute AS a
                     ON a.attname OPERATOR(pg_catalog.=) part.name
-            WHERE a.attrelid OPERATOR(pg_catalog.=) c.oid AND NOT a.attisdropped)
-    FROM krl.cached AS k
-        JOIN pg_catalog.pg_class AS c ON c.oid OPERATOR(pg_catalog.=) k.relation
+            WHERE a.attrelid OPERATOR(pg_catalog.=) c.oid AND NOT a.attisdropped
+            ORDER BY part.place)
+    FROM pg_catalog.pg_class AS c
         JOIN pg_catalog.pg_namespace AS s ON s.oid OPERATOR(pg_catalog.=) c.relnamespace
+        LEFT JOIN krl.cached AS k ON k.relation OPERATOR(pg_catalog.=) c.oid,
+        LATERAL (SELECT CASE WHEN k.mark IS NOT NULL THEN k.key_columns ELSE ARRAY(
+            SELECT a.attname
+            FROM pg_catalog.pg_index AS i,
+                pg_catalog.unnest(i.indkey::pg_catalog.int2[]) WITH ORDINALITY AS part (number, place)
+                JOIN pg_catalog.pg_attribute AS a
+                    ON a.attnum OPERATOR(pg_catalog.=) part.number
+            WHERE i.indrelid OPERATOR(pg_catalog.=) c.oid AND i.indisprimary
+                AND a.attrelid OPERATOR(pg_catalog.=) c.oid
+                AND part.place OPERATOR(pg_catalog.<=) i.indnkeyatts
+            ORDER BY part.place) END AS columns) AS key
     WHERE c.oid OPERATOR(pg_catalog.=) pg_catalog.to_regclass($1)";
 
 const EQUALS: &str = "OPERATOR(pg_catalog.=)";
@@ -256,8 +268,8 @@ mod tests {
     /// Names of functions, types and operators in a statement that have no schema. `bigint` and such
     /// are words of SQL, and never names in a schema.
     fn unqualified(sql: &str) -> Vec<&str> {
-        const WORDS: [&str; 9] =
-            ["OPERATOR", "ARRAY", "FROM", "AS", "k", "part", "ELSE", "bigint", "SELECT"];
+        const WORDS: [&str; 10] =
+            ["OPERATOR", "ARRAY", "FROM", "AS", "k", "part", "ELSE", "bigint", "SELECT", "LATERAL"];
         let is_of_name = |letter: char| letter.is_alphanumeric() || letter == '_' || letter == '.';
         let called = sql.match_indices('(').map(|(place, _)| {
             let before = sql[..place].trim_end();

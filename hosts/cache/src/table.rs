@@ -1,5 +1,5 @@
 //! The calls by which a table is read.
-use crate::definition::{Definition, Holding, Wanted};
+use crate::definition::{Definition, Holding, Wanted, not_cached};
 use crate::error::ReadError;
 use crate::fault_note::FaultNote;
 use crate::held::{self, Held, Missing};
@@ -7,12 +7,13 @@ use crate::key::Key;
 use crate::row::Row;
 use crate::rows::{Loaded, Rows};
 use crate::shared::Shared;
-use crate::sql::Selection;
+use crate::sql::{KeyType, Selection};
 use crate::statistics::{Counters, Statistics};
 use std::fmt;
 use std::ops::{Bound, RangeBounds, RangeInclusive};
 use std::sync::mpsc::SyncSender;
-use std::sync::{Arc, PoisonError, RwLock};
+use std::sync::{Arc, Mutex, MutexGuard, PoisonError, RwLock};
+use std::time::Instant;
 
 /// A range of more keys is always read from the database.
 const MOST_KEYS: usize = 4096;
@@ -32,6 +33,7 @@ pub(crate) struct Inner {
     pub counters: Counters,
     /// Why the rows of this table are not kept.
     pub fault: FaultNote,
+    next_look: Mutex<Instant>,
 }
 
 /// What the loader is to do.
@@ -58,9 +60,13 @@ impl Table {
             Ok((name, definition))
         });
         let (name, definition) = found?;
-        let definition = RwLock::new(Arc::new(definition));
         let (counters, fault) = (Counters::default(), FaultNote::default());
-        let inner = Inner { name, shared, definition, counters, fault };
+        if !definition.is_cached {
+            fault.set(Some(not_cached(&name)));
+        }
+        let (definition, next_look) =
+            (RwLock::new(Arc::new(definition)), Mutex::new(Instant::now()));
+        let inner = Inner { name, shared, definition, counters, fault, next_look };
         Ok(Table { inner: Arc::new(inner), errands })
     }
 
@@ -150,7 +156,7 @@ impl Table {
         keys: &impl RangeBounds<i64>,
     ) -> Result<Option<RangeInclusive<i64>>, ReadError> {
         let definition = self.inner.definition();
-        if definition.stripes.by_remainder {
+        if definition.sql.key == [KeyType::Integer] {
             return Ok(inclusive(keys));
         }
         let table = &definition.sql.table;
@@ -175,8 +181,9 @@ impl Table {
     }
 
     /// Why the last rows of this table that should be kept were not, as a sentence: that krl or the
-    /// extension is away, as [`Cache::fault`](crate::Cache::fault) reports it, or what the database
-    /// reports of this table. Meanwhile the database answers the reads.
+    /// extension is away, as [`Cache::fault`](crate::Cache::fault) reports it, or what is so of this
+    /// table, such as a missing right, or that it is not cached. Meanwhile the database answers the
+    /// reads. Each new reason is an event of `tracing` too.
     #[must_use]
     pub fn fault(&self) -> Option<String> {
         self.inner.fault()
@@ -261,8 +268,9 @@ impl<'r> Read<'r> {
         let part: Vec<Wanted<'_>> = places.iter().map(|place| self.wanted[*place]).collect();
         let is_all = part.len() == self.wanted.len();
         let selection = if is_all { self.selection() } else { of_keys(&part) };
-        let loaded = inner.shared.ask(|it| self.definition.load(it, &part, &selection))?;
-        inner.note_load(&loaded);
+        let ask = |session: &mut _| self.definition.load(session, &part, &selection);
+        let (loaded, fault) = inner.shared.ask(ask)?;
+        inner.note_load(&loaded, fault.as_ref());
         if is_all {
             inner.counters.misses.add(part.len());
             return Ok(Some(loaded.into_iter().map(|(rows, _)| rows).collect()));
@@ -319,10 +327,19 @@ impl<'r> Read<'r> {
 }
 
 impl Inner {
-    /// Notes a question for rows that are to be kept, and that the database refuses none.
-    pub fn note_load(&self, loaded: &[Loaded]) {
+    /// Notes a question for rows that are to be kept, and why the extension has not answered it, if
+    /// it has not.
+    pub fn note_load(&self, loaded: &[Loaded], fault: Option<&ReadError>) {
         self.counters.note_load(loaded);
-        self.fault.set(None);
+        self.fault.set(fault.map(ToString::to_string));
+        if loaded.iter().any(|(_, held)| held.is_some()) {
+            self.shared.fault.set(None);
+        }
+    }
+
+    /// When the loader looks again whether the table is cached.
+    pub fn next_look(&self) -> MutexGuard<'_, Instant> {
+        self.next_look.lock().unwrap_or_else(PoisonError::into_inner)
     }
 
     fn fault(&self) -> Option<String> {

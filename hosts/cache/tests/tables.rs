@@ -257,6 +257,58 @@ fn a_row_that_is_not_kept_has_the_columns_of_its_table_at_once() {
 }
 
 #[test]
+fn a_table_that_is_not_cached_is_read_from_the_database_until_it_is() {
+    let Some(site) = Site::start() else { return };
+    let caches = [site.cache(), site.cache()];
+    let running = caches[0].table("item").unwrap();
+    from_memory(&running, |items| items.get(3).unwrap());
+    site.define(2, "DELETE FROM krl.cached WHERE relation = 'item'::regclass");
+    let tables = [running, caches[1].table("item").unwrap()];
+    let expected = "the table public.item is not cached: call SELECT krl.cache('public.item')";
+    assert!(tables[1].fault().unwrap().starts_with(expected));
+    for (table, cache) in tables.iter().zip(&caches) {
+        wait_until("the loader looks at the table", || {
+            assert_eq!(name_of(table, 3).unwrap(), "item 3");
+            table.fault().is_some_and(|fault| fault.starts_with(expected))
+        });
+        assert_eq!(names(&table.range(7..9).unwrap()), ["item 7", "item 8"]);
+        assert_eq!((table.cached([3]).unwrap(), cache.fault()), (None, None));
+    }
+    site.sql.run("UPDATE item SET name = 'lamp' WHERE id = 3");
+    assert_eq!(tables.each_ref().map(|table| name_of(table, 3).unwrap()), ["lamp"; 2]);
+
+    // It is cached again, by another mark.
+    site.define(3, "INSERT INTO krl.cached VALUES ('item', '{id}', 119, 16, true)");
+    for table in &tables {
+        assert_eq!(from_memory(table, |table| name_of(table, 3)).unwrap(), "lamp");
+        wait_until("there is no fault", || table.fault().is_none());
+    }
+    site.write(123..124, "UPDATE item SET name = 'shade' WHERE id = 3");
+    assert_eq!(tables.each_ref().map(|table| name_of(table, 3).unwrap()), ["shade"; 2]);
+    caches.into_iter().for_each(Cache::close);
+}
+
+#[test]
+fn an_extension_of_another_version_is_reported() {
+    let Some(site) = Site::start() else { return };
+    let cache = site.cache();
+    let items = cache.table("item").unwrap();
+    from_memory(&items, |items| items.get(3).unwrap());
+    site.sql.run("ALTER FUNCTION krl.quiet RENAME TO calm");
+    // Of a stripe that is held, and of one that is not.
+    for key in [19, 4] {
+        wait_until("the fault is reported", || {
+            assert_eq!(name_of(&items, key).unwrap(), format!("item {key}"));
+            items.fault().is_some_and(|fault| fault.contains("ALTER EXTENSION krl UPDATE"))
+        });
+    }
+    site.sql.run("ALTER FUNCTION krl.calm RENAME TO quiet");
+    from_memory(&items, |items| items.get(4).unwrap());
+    wait_until("there is no fault", || items.fault().is_none());
+    cache.close();
+}
+
+#[test]
 fn a_changed_definition_is_found() {
     let Some(site) = Site::start() else { return };
     let cache = site.cache();
@@ -379,6 +431,22 @@ fn what_the_database_refuses_of_one_table_is_no_fault_of_the_others() {
 }
 
 #[test]
+fn a_lock_that_others_hold_is_a_fault_of_its_table() {
+    let Some(site) = Site::start() else { return };
+    let cache = site.cache();
+    let items = cache.table("item").unwrap();
+    let held = site.keep_from_readers(keys_of_item(4..5));
+    wait_until("the loader gives up", || {
+        assert_eq!((name_of(&items, 4).unwrap(), cache.fault()), ("item 4".to_string(), None));
+        items.fault().is_some_and(|fault| fault.contains("another client holds"))
+    });
+    drop(held);
+    from_memory(&items, |items| items.get(4).unwrap());
+    wait_until("there is no fault", || items.fault().is_none());
+    cache.close();
+}
+
+#[test]
 fn connections_that_end_are_made_again() {
     let Some(mut site) = Site::start() else { return };
     let cache = site.cache();
@@ -443,7 +511,7 @@ fn several_caches_and_threads_read_a_table() {
 fn what_cannot_be_read_is_refused_with_a_sentence() {
     let Some(site) = Site::start() else { return };
     site.sql.run(
-        "CREATE TABLE plain (id bigint PRIMARY KEY);
+        "CREATE TABLE plain (id bigint);
          CREATE TABLE named (name text PRIMARY KEY);
          INSERT INTO krl.cached VALUES ('named', '{name}', 119, 16, false);
          CREATE TABLE renamed (id bigint PRIMARY KEY);
@@ -451,9 +519,9 @@ fn what_cannot_be_read_is_refused_with_a_sentence() {
     );
     let cache = site.cache();
     let refused = |table: &str| cache.table(table).unwrap_err().to_string();
-    assert!(
-        refused("plain").starts_with("the table public.plain is not cached: call SELECT krl.cache")
-    );
+    let expected = "the table public.plain is not cached, and cannot be read either: it has no \
+                    primary key ";
+    assert!(refused("plain").starts_with(expected), "{}", refused("plain"));
     assert!(refused("missing").starts_with("the database: relation \"missing\" does not exist"));
     assert!(
         refused("renamed").starts_with("the key of public.renamed has changed since it was cached")

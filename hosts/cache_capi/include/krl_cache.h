@@ -119,9 +119,7 @@ typedef enum krlcache_code {
     KRLCACHE_OUT_OF_MEMORY = 63,
     /* The database refused the call, or did not answer in time. */
     KRLCACHE_DATABASE = 80,
-    /* The table is not cached: an operator calls `krl.cache` in the database. */
-    KRLCACHE_NOT_CACHED = 81,
-    /* The database has no extension `krl`. */
+    /* The database has no extension `krl`, or one of another version. */
     KRLCACHE_NO_EXTENSION = 82,
     /* The key has several rows: `krlcache_get_all` reads all of them. */
     KRLCACHE_SEVERAL_ROWS = 83,
@@ -254,9 +252,10 @@ KRLCACHE_NODISCARD uint32_t krlcache_fault(krlcache_cache *cache, krlcache_error
 
 /* Opens a table by its name in SQL: one that is not in lower case stands in quotes. One without a schema is looked up
  * by the role's search path, once. Each call begins with empty memory: a process opens a table once.
- * `krlcache_table_free` frees it, before its cache or after it. Errors: KRLCACHE_NOT_CACHED, KRLCACHE_NO_EXTENSION,
- * KRLCACHE_DATABASE; KRLCACHE_BAD_KEY if the columns of the key have changed since the table was cached. Then `table`
- * is null. */
+ * `krlcache_table_free` frees it, before its cache or after it. One that is not cached is read from the database, by
+ * its primary key, and its rows are kept after `krl.cache` was called. Errors: KRLCACHE_NO_EXTENSION,
+ * KRLCACHE_DATABASE; KRLCACHE_BAD_KEY if the columns of the key have changed since the table was cached, or if it is
+ * not cached and has no primary key. Then `table` is null. */
 KRLCACHE_NODISCARD uint32_t krlcache_table_open(krlcache_cache *cache, const char *name, krlcache_table **table,
                                                 krlcache_error *error);
 
@@ -264,8 +263,8 @@ KRLCACHE_NODISCARD uint32_t krlcache_table_open(krlcache_cache *cache, const cha
 void krlcache_table_free(krlcache_table *table);
 
 /* Why the rows of a table are not kept at present: KRLCACHE_OK if nothing is known, otherwise KRLCACHE_AWAY with the
- * sentence of `krlcache_fault`, or with what the database reports of this table, such as a missing right. Errors:
- * KRLCACHE_MISUSE, KRLCACHE_FORKED. */
+ * sentence of `krlcache_fault`, or with what is so of this table, such as a missing right, or that it is not cached.
+ * Errors: KRLCACHE_MISUSE, KRLCACHE_FORKED. */
 KRLCACHE_NODISCARD uint32_t krlcache_table_fault(krlcache_table *table, krlcache_error *error);
 
 /* Writes what was done for a table. Errors: KRLCACHE_MISUSE, KRLCACHE_FORKED. */

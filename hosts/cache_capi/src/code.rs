@@ -15,7 +15,6 @@ krl_ffi::codes! {
     Internal = 45, c"KRLCACHE_INTERNAL";
     OutOfMemory = 63, c"KRLCACHE_OUT_OF_MEMORY";
     Database = 80, c"KRLCACHE_DATABASE";
-    NotCached = 81, c"KRLCACHE_NOT_CACHED";
     NoExtension = 82, c"KRLCACHE_NO_EXTENSION";
     SeveralRows = 83, c"KRLCACHE_SEVERAL_ROWS";
     BadColumn = 84, c"KRLCACHE_BAD_COLUMN";
@@ -27,7 +26,6 @@ impl From<&ReadError> for Code {
     fn from(error: &ReadError) -> Code {
         match error {
             ReadError::Database { .. } => Code::Database,
-            ReadError::NotCached(_) => Code::NotCached,
             ReadError::NoExtension => Code::NoExtension,
             ReadError::Key(_) => Code::BadKey,
             ReadError::SeveralRows(_) => Code::SeveralRows,

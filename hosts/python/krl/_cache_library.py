@@ -63,7 +63,6 @@ class Forked(CacheError, code=28): """A cache does not survive a fork: open one 
 class Stopped(CacheError, code=45): """A fault of the library, which standard error shows."""
 class OutOfMemory(CacheError, MemoryError, code=63): """Memory was refused."""
 class DatabaseError(CacheError, code=80): """The database refused the call, or was late."""
-class NotCached(CacheError, code=81): """The table is not cached: call ``krl.cache`` in SQL."""
 class NoExtension(CacheError, code=82): """The database has no extension ``krl``."""
 class SeveralRows(CacheError, code=83): """The key has several rows: ``get_all`` reads them."""
 class BadColumn(CacheError, code=BAD_COLUMN): """A column is not as it is converted."""

@@ -13,6 +13,7 @@ value of an enum is a ``str``. Columns of other types are ``bytes``, as PostgreS
 
 import asyncio
 import ctypes
+import logging
 import os
 import weakref
 from collections.abc import Callable, Iterable, Sequence
@@ -24,9 +25,9 @@ from ._cache_library import BadAddress as BadAddress, BadArgument as BadArgument
 from ._cache_library import BadKey as BadKey, BadNumbers as BadNumbers
 from ._cache_library import BadTls as BadTls, CacheError as CacheError, Closed as Closed
 from ._cache_library import DatabaseError as DatabaseError, Forked as Forked
-from ._cache_library import NoExtension as NoExtension, NotCached as NotCached
-from ._cache_library import OutOfMemory as OutOfMemory, SeveralRows as SeveralRows
-from ._cache_library import Stopped as Stopped, SystemRefused as SystemRefused
+from ._cache_library import NoExtension as NoExtension, OutOfMemory as OutOfMemory
+from ._cache_library import SeveralRows as SeveralRows, Stopped as Stopped
+from ._cache_library import SystemRefused as SystemRefused
 from ._cache_library import Room, call, calls, fault_of, packed_key, refused
 from ._cache_rows import Row as Row, packed_row, row_at, rows_in
 from ._library import Handle, made, workers
@@ -37,6 +38,7 @@ Key = KeyValue | Sequence[KeyValue]
 """A value, or a tuple of the values of several columns."""
 
 _FIRST_KEY, _END_OF_KEYS = -(1 << 63), 1 << 63
+_log = logging.getLogger("krl.cache")
 
 
 class Miss(Enum):
@@ -81,7 +83,7 @@ class Table:
         self._cache, self.name, library = cache, name, calls()
         if "\0" in name:
             raise BadArgument(f"no name of a table has a zero in it, as {name!r} has")
-        self._handle = Handle("table_free", calls=library)
+        self._handle, self._logged = Handle("table_free", calls=library), cache._logged
         call("table_open", cache._own(), name.encode(), ctypes.byref(self._handle))
         self._cached_packed = library.cached_packed
 
@@ -125,6 +127,7 @@ class Table:
     def get_all(self, *key: KeyValue) -> list[Row]:
         """All rows of a key, for a table whose key columns are not unique."""
         call("get_all", self._handle, packed_key(key), len(key), (room := Room()).rows)
+        self._log_fault()
         return _all(rows_in(room))
 
     def range(self, start: int = _FIRST_KEY, stop: int = _END_OF_KEYS) -> list[Row]:
@@ -144,8 +147,9 @@ class Table:
         return rows if rows is MISS else _all(rows)
 
     def fault(self) -> str | None:
-        """Why the rows of this table are not kept at present: the fault of the cache, or what the
-        database reports of this table, such as a missing right."""
+        """Why the rows of this table are not kept at present: the fault of the cache, or what is so
+        of this table, such as a missing right, or that it is not cached. The log ``krl.cache`` has
+        each reason once, from a read that was not answered from memory."""
         return fault_of("table_fault", self._handle)
 
     def statistics(self) -> Statistics:
@@ -168,7 +172,13 @@ class Table:
             failure = Failure()
             getattr(calls(), name)(self._handle, *words, Room().rows, ctypes.byref(failure))
             raise refused(code, failure)
+        self._log_fault()
         return MISS
+
+    def _log_fault(self) -> None:
+        if (why := self.fault()) is not None and why not in self._logged:
+            self._logged.add(why)
+            _log.warning("rows are not kept: %s", why)
 
 
 class Cache:
@@ -176,10 +186,11 @@ class Cache:
     that it holds at the end of a ``with``, when it is collected, and when the process exits.
 
     ``database`` is an address such as ``postgres://shop@127.0.0.1:5432/shop``, without a password;
-    ``lock_folder`` is the same one for all processes of this machine. ``user`` has the name and the
-    password of the user who connects. ``numbers`` are those of krl's clients of which the first
-    free one is taken, by default ``range(0, 56)``; ``memory`` the bytes that are kept of a table,
-    by default 64 MiB; ``timeout`` how many seconds a read waits for the database."""
+    ``lock_folder`` is the same one for all processes of this machine. ``user`` is the name and the
+    password of the user who connects, as ``("shop", "secret")``. ``numbers`` are those of krl's
+    clients of which the first free one is taken, by default ``range(0, 56)``; ``memory`` the bytes
+    that are kept of a table, by default 64 MiB; ``timeout`` how many seconds a read waits for the
+    database."""
 
     def __init__(self, database: str, lock_folder: str | os.PathLike[str], *,
                  user: tuple[str, str] | None = None, numbers: range | None = None,
@@ -187,6 +198,7 @@ class Cache:
         options, library = _options(database, lock_folder, user, numbers, tls), calls()
         options.memory, options.timeout_ms = memory, _milliseconds(timeout)
         self._database, self._handle, failure = database, ctypes.c_void_p(), Failure()
+        self._logged: set[str] = set()
         room = ctypes.byref(self._handle)
         if code := library.open(ctypes.byref(options), room, ctypes.byref(failure)):
             raise refused(code, failure)

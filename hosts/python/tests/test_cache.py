@@ -180,11 +180,21 @@ class TableTest(Site):
         self.ask("define 3 ALTER TABLE note DROP COLUMN day")
         self.assertEqual(items.get_all("grace"), [{"author": "grace", "body": "three"}])
 
+    def test_a_table_that_is_not_cached_is_read_from_the_database(self) -> None:
+        why = r"the table public.plain is not cached: call SELECT krl.cache\('public.plain'\)"
+        with self.assertLogs("krl.cache", "WARNING") as logged:
+            plain = self.cache().table("plain")
+            for _ in range(20):
+                self.assertIsNone(plain.get(3))
+                self.assertIs(plain.cached_get(3), MISS)
+                self.assertRegex(str(plain.fault()), why)
+        self.assertEqual(len(logged.output), 1)
+        self.assertRegex(logged.output[0], why)
+
     def test_wrong_arguments_are_refused(self) -> None:
         cache = self.cache()
         items = cache.table("item")
         for name, error, text in (
-            ("plain", reader.NotCached, "plain is not cached"),
             ("missing", reader.DatabaseError, "does not exist"),
             ("item\0", reader.BadArgument, "has a zero in it"),
         ):

@@ -1,7 +1,7 @@
 //! A database, a server of krl, and what stands for the extension: functions in SQL, and a client
 //! of krl that takes back what the test names.
 #![allow(dead_code, reason = "each test uses a part of it")]
-use krl::{Client, MemoryStore, Outcome, Server, Value};
+use krl::{Client, MemoryStore, Outcome, Pin, Server, Value};
 use krl_cache::{Cache, CacheBuilder, Row, Table};
 use krl_testing::database::{Database, Sql};
 use std::collections::BTreeSet;
@@ -152,8 +152,13 @@ impl Site {
 
     /// Takes keys of krl back from all readers.
     pub fn take_back(&self, keys: Range<u64>) {
+        drop(self.keep_from_readers(keys));
+    }
+
+    /// The same, and lets no reader hold them until the pin is dropped.
+    pub fn keep_from_readers(&self, keys: Range<u64>) -> Pin {
         self.worker.forget(keys.clone()).unwrap();
-        drop(self.worker.pin_for_write(keys).unwrap());
+        self.worker.pin_for_write(keys).unwrap().1
     }
 
     /// Does what a program asks for, and answers each line by the line `done`:

@@ -154,10 +154,8 @@ static void packed_rows(void) {
 
 static void errors(void) {
     krlcache_table *none = items;
-    EXPECT(KRLCACHE_NOT_CACHED, krlcache_table_open(cache, "plain", &none, &error));
-    WANT(none == NULL && error.code == KRLCACHE_NOT_CACHED && reports("plain is not cached"));
-    WANT(strcmp(error.sqlstate, "") == 0);
     EXPECT(KRLCACHE_DATABASE, krlcache_table_open(cache, "missing", &none, &error));
+    WANT(none == NULL && error.code == KRLCACHE_DATABASE);
     WANT(reports("relation \"missing\" does not exist") && strcmp(error.sqlstate, "42P01") == 0);
     krlcache_value lamp = text("lamp"), both[] = {integer(3), integer(4)};
     EXPECT(KRLCACHE_BAD_KEY, krlcache_get(items, &lamp, 1, rows, &error));
@@ -165,6 +163,19 @@ static void errors(void) {
     EXPECT(KRLCACHE_BAD_KEY, krlcache_cached_get(items, both, 2, rows, &error));
     WANT(strcmp(krlcache_code_name(KRLCACHE_BAD_KEY), "KRLCACHE_BAD_KEY") == 0);
     WANT(strcmp(krlcache_code_name(7), "?") == 0 && krlcache_version() == KRLCACHE_VERSION);
+}
+
+static void not_cached(void) {
+    krlcache_table *plain = open_table(cache, "plain");
+    krlcache_value key = integer(3);
+    EXPECT(KRLCACHE_ABSENT, krlcache_get(plain, &key, 1, rows, &error));
+    ask("sql INSERT INTO plain VALUES (3); ALTER TABLE plain ADD COLUMN name text");
+    EXPECT(KRLCACHE_OK, krlcache_get(plain, &key, 1, rows, &error));
+    WANT(krlcache_columns(rows, 0) == 2 && krlcache_find_column(rows, 0, "name") == 1);
+    EXPECT(KRLCACHE_AWAY, krlcache_table_fault(plain, &error));
+    WANT(reports("the table public.plain is not cached: call SELECT krl.cache('public.plain')"));
+    WANT(strcmp(error.sqlstate, "") == 0);
+    krlcache_table_free(plain);
 }
 
 static void what_was_done(void) {
@@ -228,6 +239,7 @@ int main(int count, char **words) {
     values_of_each_type();
     packed_rows();
     errors();
+    not_cached();
     what_was_done();
     krl_is_away(words);
     the_end();
