@@ -43,10 +43,13 @@ fn each_client_is_listed_with_its_peer_its_lease_and_its_wait() {
             "{output}"
         );
         assert_eq!(serving.get("/clients").1.lines().count(), 3);
-        let status: Json = serde_json::from_str(&serving.get("/status.json").1).unwrap();
+        let status = || -> Json { serde_json::from_str(&serving.get("/status.json").1).unwrap() };
+        until("the wait has a length", || {
+            status()["waits"][0]["waited_seconds"].as_f64().unwrap() > 0.0
+        });
+        let status = status();
         assert_eq!(status["clients"][1]["wait"]["waits_for"], json!([3]));
         assert_eq!(status["waits"][0]["waits_for"], json!([3]));
-        assert!(status["waits"][0]["waited_seconds"].as_f64().unwrap() > 0.0);
         assert_eq!(status["holdings"][0]["client"], 3);
         assert_eq!((&status["phase"], &status["shard"]), (&json!("serving"), &Json::Null));
         assert_eq!((&status["rows"], &status["room"]), (&json!(1), &json!(65_536)));
