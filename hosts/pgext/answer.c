@@ -27,12 +27,8 @@
 
 /* How long one call of krl's client waits before the worker looks again what it should do. */
 #define ATTEMPT_MS 100
-#define ROWS_MS 5000
 
 #define RETRY_MS 10
-
-/* How many rows one call makes. */
-#define ROWS_OF_A_CALL 1024
 
 /* The span of a request that this worker does. */
 typedef struct Task
@@ -42,7 +38,8 @@ typedef struct Task
 	uint64		state;			/* of the request, which runs */
 	KrlRequestKind kind;
 	TimestampTz end;
-	KrlSpan		span;
+	uint64		made;			/* of the request */
+	KrlSpan		span;			/* without the rows that are made */
 	bool		is_last;
 } Task;
 
@@ -173,50 +170,6 @@ recall(krlc_client *client, KrlSpan span, TimestampTz end, krlc_error *error)
 	return code;
 }
 
-static uint32
-insert_once(krlc_client *client, krlc_write *writes, KrlSpan span, krlc_error *error)
-{
-	int			count = (int) (span.hi - span.lo);
-	uint32		code;
-
-	for (int i = 0; i < count; i++)
-		writes[i] = (krlc_write) {.kind = KRLC_INSERT,.row = {.key = span.lo + i}};
-	code = krlc_write_all(client, writes, count, ROWS_MS, error);
-	for (int i = 0; i < count && code == KRLC_OK; i++)
-		if (writes[i].outcome == KRLC_FULL)
-			code = KRLC_FULL;
-	if (code == KRLC_FULL)
-		strlcpy(error->sentence, "krl's server has no room for so many rows: start it with a "
-				"greater --room", sizeof(error->sentence));
-	return code;
-}
-
-/*
- * Inserts a row for each key that has none.  What fails is tried again until
- * the end: an insert of a row that is there changes nothing.
- */
-uint32
-krl_insert_rows(krlc_client *client, KrlSpan span, TimestampTz end, krlc_error *error)
-{
-	krlc_write *writes = palloc0(sizeof(krlc_write) * ROWS_OF_A_CALL);
-	uint32		code = KRLC_OK;
-
-	while (span.lo < span.hi && code != KRLC_FULL && !krl_must_end())
-	{
-		KrlSpan		part = {span.lo, Min(span.lo + ROWS_OF_A_CALL, span.hi)};
-
-		code = insert_once(client, writes, part, error);
-		if (code == KRLC_OK)
-			span.lo = part.hi;
-		else if (GetCurrentTimestamp() >= end)
-			break;
-		else if (code != KRLC_FULL)
-			pg_usleep(RETRY_MS * 1000L);
-	}
-	pfree(writes);
-	return code == KRLC_OK && span.lo < span.hi ? KRLC_STOPPED : code;
-}
-
 /* Notes that this worker does these keys, unless another one does some of them. */
 static bool
 claim(KrlSpan span)
@@ -281,6 +234,8 @@ begin_task(uint32 procno, bool takes_set_aside)
 	task.kind = request->kind;
 	task.end = request->end;
 	task.span = request->spans[place];
+	task.made = pg_atomic_read_u64(&request->made);
+	task.span.lo += KRL_MADE(task.made);
 	task.is_last = (int) place + 1 >= request->nspans;
 	if (!claim(task.span))
 		return false;
@@ -321,24 +276,45 @@ fail(uint32 code, const krlc_error *error)
 }
 
 static uint32
-run_task(krlc_client *client, krlc_error *error)
+recall_task(krlc_client *client, krlc_error *error)
 {
 	TimestampTz begun = GetCurrentTimestamp();
 	uint32		code;
 
-	if (task.kind == KRL_MAKE_ROWS)
-		return krl_insert_rows(client, task.span, task.end, error);
 	code = recall(client, task.span, task.end, error);
 	pg_atomic_fetch_add_u64(&my_worker->spans, code == KRLC_OK);
 	pg_atomic_fetch_add_u64(&my_worker->microseconds, GetCurrentTimestamp() - begun);
 	return code;
 }
 
+/*
+ * Makes the next rows of a request.  What fails is tried again, by any worker,
+ * as long as the backend waits.
+ */
 static KrlAnswer
-do_task(krlc_client *client)
+make_rows(krlc_client *client)
 {
 	krlc_error	error = {0};
-	uint32		code = run_task(client, &error);
+	KrlSpan		left = task.span;
+	uint32		code = krl_insert_rows(client, &left, &error);
+
+	(void) pg_atomic_compare_exchange_u64(&task.request->made, &task.made,
+										  task.made + left.lo - task.span.lo);
+	if (code == KRLC_FULL)
+		fail(code, &error);
+	else
+		settle(KRL_PLACE(task.state), left.lo < left.hi ? KRL_WAITS : KRL_DONE);
+	end_claim();
+	if (code != KRLC_OK)
+		pg_usleep(RETRY_MS * 1000L);
+	return KRL_ANSWERED;
+}
+
+static KrlAnswer
+take_back(krlc_client *client)
+{
+	krlc_error	error = {0};
+	uint32		code = recall_task(client, &error);
 	bool		is_set_aside = code == KRLC_TIMED_OUT && GetCurrentTimestamp() < task.end;
 	bool		is_stuck = false;
 
@@ -370,7 +346,7 @@ do_one_task(krlc_client *client, bool takes_set_aside)
 		if (!begin_task(procno, takes_set_aside))
 			continue;
 		first = task.is_last ? procno + 1 : procno;
-		return do_task(client);
+		return task.kind == KRL_MAKE_ROWS ? make_rows(client) : take_back(client);
 	}
 	return KRL_IDLE;
 }

@@ -15,10 +15,10 @@
 
 #include "krl_pg.h"
 
-/* Rows that one span of a request makes, unless it would have too many spans. */
-#define ROWS_OF_A_SPAN 1024
-
 #define POLL_MS 10
+
+/* How long a session that has rows made waits until it looks, and reports, how many there are. */
+#define REPORT_MS 3000
 
 /* Waits until the latch of this process is set, and for so long at most.  It may be canceled. */
 void
@@ -30,34 +30,86 @@ krl_wait(long milliseconds)
 	CHECK_FOR_INTERRUPTS();
 }
 
-static void
-refuse(KrlRequestKind kind, const char *fault)
+/* How long this session waits for workers: krl.timeout from the last row on that they have made. */
+typedef struct Patience
 {
-	const char *address = krl_server_address();
+	uint64		made;
+	TimestampTz end;
+	TimestampTz report;
+} Patience;
 
-	if (kind == KRL_MAKE_ROWS)
-		ereport(ERROR,
-				(errcode(ERRCODE_CONNECTION_FAILURE),
-				 errmsg("could not make the stripes of the table: %s", fault),
-				 errhint("Check that krl's server runs at \"%s\".", address)));
+static Patience
+begin_patience(void)
+{
+	TimestampTz now = GetCurrentTimestamp();
+
+	return (Patience) {0, TimestampTzPlusMilliseconds(now, krl_timeout),
+		TimestampTzPlusMilliseconds(now, REPORT_MS)};
+}
+
+/* Waits for a while.  Returns whether to look again. */
+static bool
+wait_on(Patience *patience, uint64 made, uint64 wanted, long most)
+{
+	TimestampTz now = GetCurrentTimestamp();
+
+	if (made > patience->made)
+	{
+		patience->made = made;
+		patience->end = TimestampTzPlusMilliseconds(now, krl_timeout);
+	}
+	if (made < wanted && now >= patience->report)
+	{
+		ereport(NOTICE,
+				(errmsg("krl has " UINT64_FORMAT " of " UINT64_FORMAT " rows", made, wanted)));
+		patience->report = TimestampTzPlusMilliseconds(now, REPORT_MS);
+	}
+	if (now >= patience->end)
+		return false;
+	krl_wait(Min(most, TimestampDifferenceMilliseconds(now, patience->end)));
+	return true;
+}
+
+static void
+refuse_recall(const char *fault)
+{
 	ereport(ERROR,
 			(errcode(ERRCODE_CONNECTION_FAILURE),
 			 errmsg("could not take the changed rows back from the caches: %s", fault),
 			 errhint("Check that krl's server runs at \"%s\". To commit without it, "
-					 "stop it for good and call krl.suspend(true).", address)));
+					 "stop it for good and call krl.suspend(true).", krl_server_address())));
 }
 
-/* Why no worker has answered. */
-static void
-refuse_late(KrlRequestKind kind)
+/* How many rows the request is for. */
+static uint64
+rows_wanted(KrlRequest *request)
 {
-	char		fault[KRL_FAULT_LENGTH];
+	return request->kind == KRL_MAKE_ROWS ? request->spans[0].hi - request->spans[0].lo : 0;
+}
 
+static void
+refuse(KrlRequest *request, const char *fault)
+{
+	if (request->kind == KRL_RECALL)
+		refuse_recall(fault);
+	ereport(ERROR,
+			(errcode(ERRCODE_CONNECTION_FAILURE),
+			 errmsg("could not make the stripes of the table: %s", fault),
+			 errdetail("krl has %u of " UINT64_FORMAT " rows. Its server at \"%s\" syncs its store for each.",
+					   KRL_MADE(pg_atomic_read_u64(&request->made)), rows_wanted(request),
+					   krl_server_address()),
+			 errhint("Call krl.cache again, which makes the others. If the store is slow, set "
+					 "krl.timeout to more.")));
+}
+
+/* Reads why no worker has answered. */
+static void
+read_delay(char *fault)
+{
 	krl_read_text(&krl_shared->workers[0], krl_shared->workers[0].fault, fault);
 	for (int worker = 0; worker < krl_workers; worker++)
 		if (krl_is_ready(&krl_shared->workers[worker]))
-			strlcpy(fault, "no answer came within krl.timeout", sizeof(fault));
-	refuse(kind, fault);
+			strlcpy(fault, "no answer came within krl.timeout", KRL_FAULT_LENGTH);
 }
 
 /* Begins a request of this backend.  No worker answers an earlier one from now on. */
@@ -69,6 +121,7 @@ begin_request(KrlRequestKind kind)
 
 	pg_atomic_write_u64(&request->state, krl_state(number, 0, KRL_FREE));
 	pg_memory_barrier();
+	pg_atomic_write_u64(&request->made, (uint64) number << 32);
 	request->kind = kind;
 	request->begun = GetCurrentTimestamp();
 	request->end = TimestampTzPlusMilliseconds(request->begun, krl_timeout);
@@ -95,26 +148,27 @@ add_span(KrlRequest *request, uint64 lo, uint64 hi)
 static void
 await_request(KrlRequest *request)
 {
-	for (;;)
-	{
-		uint64		state = pg_atomic_read_u64(&request->state);
-		long		left;
+	Patience	patience = begin_patience();
+	char		fault[KRL_FAULT_LENGTH];
+	uint64		state;
+	uint32		made;
 
+	do
+	{
+		state = pg_atomic_read_u64(&request->state);
+		made = KRL_MADE(pg_atomic_read_u64(&request->made));
 		if (KRL_PHASE(state) == KRL_DONE)
 			return;
 		if (KRL_PHASE(state) == KRL_FAILED)
 		{
 			KrlWorker  *worker = &krl_shared->workers[KRL_PLACE(state)];
-			char		failure[KRL_FAULT_LENGTH];
 
-			krl_read_text(worker, worker->failure, failure);
-			refuse(request->kind, failure);
+			krl_read_text(worker, worker->failure, fault);
+			refuse(request, fault);
 		}
-		left = TimestampDifferenceMilliseconds(GetCurrentTimestamp(), request->end);
-		if (left <= 0)
-			refuse_late(request->kind);
-		krl_wait(left);
-	}
+	} while (wait_on(&patience, made, rows_wanted(request), REPORT_MS));
+	read_delay(fault);
+	refuse(request, fault);
 }
 
 static void
@@ -135,14 +189,18 @@ ask(KrlRequest *request)
 void
 krl_await_first_worker(void)
 {
-	TimestampTz end = TimestampTzPlusMilliseconds(GetCurrentTimestamp(), krl_timeout);
+	Patience	patience = begin_patience();
+	char		fault[KRL_FAULT_LENGTH];
+	uint64		made;
 
-	while (!krl_is_ready(&krl_shared->workers[0]))
+	do
 	{
-		if (GetCurrentTimestamp() >= end)
-			refuse_late(KRL_RECALL);
-		krl_wait(POLL_MS);
-	}
+		if (krl_is_ready(&krl_shared->workers[0]))
+			return;
+		made = pg_atomic_read_u64(&krl_shared->rows_made);
+	} while (wait_on(&patience, made, pg_atomic_read_u64(&krl_shared->rows_wanted), POLL_MS));
+	read_delay(fault);
+	refuse_recall(fault);
 }
 
 /* The request of a transaction that was rolled back, if there is one, needs no answer. */
@@ -179,9 +237,7 @@ void
 krl_make_rows(uint64 first, uint64 nrows)
 {
 	KrlRequest *request = begin_request(KRL_MAKE_ROWS);
-	uint64		of_span = Max(ROWS_OF_A_SPAN, (nrows + KRL_MAX_SPANS - 1) / KRL_MAX_SPANS);
 
-	for (uint64 made = 0; made < nrows; made += of_span)
-		request->spans[request->nspans++] = (KrlSpan) {first + made, first + Min(made + of_span, nrows)};
+	(void) add_span(request, first, first + nrows);
 	ask(request);
 }

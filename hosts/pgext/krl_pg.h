@@ -51,7 +51,7 @@ typedef struct KrlSpan
 typedef enum KrlRequestKind
 {
 	KRL_RECALL,					/* take the keys back from all caches */
-	KRL_MAKE_ROWS				/* make a row for each key that has none */
+	KRL_MAKE_ROWS				/* make a row for each key of the only span that has none */
 } KrlRequestKind;
 
 /*
@@ -85,12 +85,16 @@ typedef enum KrlAnswer
 	KRL_STUCK					/* its client waits for a lock, and others need the worker */
 } KrlAnswer;
 
+/* How many rows of a request are made, and the number of the request. */
+#define KRL_MADE(made) ((uint32) (made))
+
 typedef struct KrlRequest
 {
 	pg_atomic_uint64 state;
+	pg_atomic_uint64 made;
 	KrlRequestKind kind;
 	TimestampTz begun;
-	TimestampTz end;			/* when the backend no longer waits for it */
+	TimestampTz end;			/* when the backend no longer waits for keys to be taken back */
 	int			nspans;
 	KrlSpan		spans[KRL_MAX_SPANS];
 } KrlRequest;
@@ -143,6 +147,10 @@ typedef struct KrlShared
 
 	/* How many keys were changed of which nobody had kept anything. */
 	pg_atomic_uint64 skipped;
+
+	/* Of the store that the first worker takes while the cluster is suspended: its rows, and those to be made. */
+	pg_atomic_uint64 rows_made;
+	pg_atomic_uint64 rows_wanted;
 
 	slock_t		mutex;			/* protects what workers have claimed */
 	int			nbackends;
@@ -207,8 +215,9 @@ extern void krl_drop_request(void);
 extern bool krl_must_end(void);
 extern KrlAnswer krl_answer_one(krlc_client *client, int number);
 extern void krl_return_request(void);
-extern uint32 krl_insert_rows(krlc_client *client, KrlSpan span, TimestampTz end,
-							  krlc_error *error);
+
+/* rows.c */
+extern uint32 krl_insert_rows(krlc_client *client, KrlSpan *span, krlc_error *error);
 
 /* store.c */
 extern bool krl_store_is_own(krlc_client *client, int worker, krlc_error *error);

@@ -87,6 +87,8 @@ init_shared(void)
 	pg_atomic_init_u32(&krl_shared->server_runs, false);
 	pg_atomic_init_u32(&krl_shared->server_is_stopped, false);
 	pg_atomic_init_u64(&krl_shared->skipped, 0);
+	pg_atomic_init_u64(&krl_shared->rows_made, 0);
+	pg_atomic_init_u64(&krl_shared->rows_wanted, 0);
 	pg_atomic_init_u32(&krl_shared->is_closed, is_suspended);
 	pg_atomic_init_u32(&krl_shared->is_suspended, is_suspended);
 	for (int worker = 0; worker < KRL_MAX_WORKERS; worker++)
@@ -94,7 +96,10 @@ init_shared(void)
 	for (int key = 0; key <= krl_stripes; key++)
 		pg_atomic_init_u32(&krl_shared->kept[key], 0);
 	for (int procno = 0; procno < krl_shared->nbackends; procno++)
+	{
 		pg_atomic_init_u64(&krl_request_of(procno)->state, krl_state(0, 0, KRL_FREE));
+		pg_atomic_init_u64(&krl_request_of(procno)->made, 0);
+	}
 }
 
 static void

@@ -341,6 +341,7 @@ krl_suspend(PG_FUNCTION_ARGS)
 		krl_store_suspend();
 	}
 	PG_END_ENSURE_ERROR_CLEANUP(open_again, (Datum) 0);
+	pg_atomic_write_u64(&krl_shared->rows_made, 0);
 	pg_atomic_write_u32(&krl_shared->is_suspended, true);
 	krl_let_server_run();
 	krl_join_again();

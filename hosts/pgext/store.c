@@ -20,7 +20,6 @@
 
 #include "storage/fd.h"
 #include "storage/lwlock.h"
-#include "utils/timestamp.h"
 
 #include "krl_pg.h"
 
@@ -165,19 +164,35 @@ name_store(krlc_client *client, const char *found, krlc_error *error)
 	return true;
 }
 
+/* Makes the rows of all stripes in another store.  Those that an earlier try has made stay. */
+static bool
+make_rows(krlc_client *client, uint64 end, krlc_error *error)
+{
+	KrlSpan		left = {0, end};
+
+	pg_atomic_write_u64(&krl_shared->rows_wanted, end);
+	while (left.lo < left.hi)
+	{
+		if (krl_must_end() || krl_insert_rows(client, &left, error) != KRLC_OK)
+			return false;
+		if (left.lo > pg_atomic_read_u64(&krl_shared->rows_made))
+			pg_atomic_write_u64(&krl_shared->rows_made, left.lo);
+	}
+	return true;
+}
+
 /* While the cluster is suspended it takes any store, and makes the rows of its stripes there. */
 static bool
 take_other_store(krlc_client *client, const char *found, uint64 end, krlc_error *error)
 {
 	Store		store;
-	KrlSpan		stripes = {0, end};
 
 	draw_store(&store);
 	if (found[0] == '\0' && !write_name(client, store.name, error))
 		return false;
 	if (found[0] != '\0')
 		strlcpy(store.name, found, sizeof(store.name));
-	if (end > 0 && krl_insert_rows(client, stripes, GetCurrentTimestamp(), error) != KRLC_OK)
+	if (!make_rows(client, end, error))
 		return false;
 	store.end = end;
 	write_store(STORE_FILE, &store);

@@ -102,8 +102,9 @@ class Installation:
 class KrlServer:
     """A server of krl."""
 
-    def __init__(self, installation, name="krl", lease=LEASE):
+    def __init__(self, installation, name="krl", lease=LEASE, environment=None):
         self.folder, self.name, self.lease = installation.folder, name, lease
+        self.environment = {**os.environ, **(environment or {})}
         self.program = installation.top / "bin/krl-server"
         self.address = f"unix:{self.folder}/{name}.socket"
         installation.started.append(self)
@@ -116,7 +117,7 @@ class KrlServer:
             words = ["serve", "--create", "--listen", self.address, "--store", f"{self.name}.db"]
             words += ["--status", "off", "--lease", self.lease]
             how = {"cwd": self.folder, "stdin": subprocess.DEVNULL, "stdout": log, "stderr": log}
-            self.process = subprocess.Popen([self.program, *words], **how)
+            self.process = subprocess.Popen([self.program, *words], env=self.environment, **how)
 
     def stop(self):
         """Stops the process: nobody is answered."""
