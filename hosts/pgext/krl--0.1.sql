@@ -10,29 +10,23 @@ BEGIN
     END IF;
 END $$;
 
--- The keys of krl that no table has had: those of a table are never used for another one. There is one row, or none at
--- first: a dump has the row.
-CREATE TABLE krl.free_keys (
-    is_only boolean PRIMARY KEY DEFAULT true CHECK (is_only),
-    first integer NOT NULL
-);
-
+-- The keys of krl of a table are those of another one only after that is no longer cached.
 CREATE TABLE krl.cached (
     relation regclass PRIMARY KEY,
     key_columns name[] NOT NULL,
-    mark integer NOT NULL UNIQUE,
+    mark integer NOT NULL,
     stripes integer NOT NULL CHECK (stripes > 0),
-    by_remainder boolean NOT NULL
+    by_remainder boolean NOT NULL,
+    EXCLUDE USING gist (int4range(mark, mark + stripes, '[]') WITH &&)
 );
 COMMENT ON TABLE krl.cached IS 'the tables that are cached';
 COMMENT ON COLUMN krl.cached.mark IS 'the key of krl of the table''s mark, which its stripes follow';
 COMMENT ON COLUMN krl.cached.by_remainder IS
     'whether the stripe of a key is its remainder by the number of stripes, and not krl.stripe';
 
--- Whoever dumps the database reads both tables, and a reader the second one.
+-- Whoever dumps the database reads it, and so do readers.
 GRANT USAGE ON SCHEMA krl TO PUBLIC;
-GRANT SELECT ON krl.free_keys, krl.cached TO PUBLIC;
-SELECT pg_catalog.pg_extension_config_dump('krl.free_keys', '');
+GRANT SELECT ON krl.cached TO PUBLIC;
 SELECT pg_catalog.pg_extension_config_dump('krl.cached', '');
 
 CREATE FUNCTION krl.changed() RETURNS trigger
@@ -187,6 +181,16 @@ BEGIN
 END $$;
 REVOKE ALL ON FUNCTION krl.require_cacheable(regclass, name[]) FROM PUBLIC;
 
+-- The first of so many keys of krl that no table has. Others who look for such keys wait until this transaction ends.
+CREATE FUNCTION krl.free_key(keys integer) RETURNS integer
+    LANGUAGE plpgsql SET search_path = pg_catalog, pg_temp AS $$
+BEGIN
+    LOCK TABLE krl.cached IN SHARE UPDATE EXCLUSIVE MODE;
+    RETURN (SELECT min(key) FROM (SELECT 0 UNION SELECT mark + stripes + 1 FROM krl.cached) AS next (key)
+        WHERE NOT EXISTS (SELECT FROM krl.cached WHERE key <= mark + stripes AND mark < key + keys));
+END $$;
+REVOKE ALL ON FUNCTION krl.free_key(integer) FROM PUBLIC;
+
 CREATE FUNCTION krl.cache(relation regclass, key_columns name[] DEFAULT NULL,
     stripes integer DEFAULT 4096) RETURNS void
     LANGUAGE plpgsql SET search_path = pg_catalog, pg_temp AS $$
@@ -205,12 +209,9 @@ BEGIN
             RAISE EXCEPTION 'a table has one stripe or more, and not %', stripes
                 USING ERRCODE = 'invalid_parameter_value';
         END IF;
-        entry := (relation, columns, 0, stripes, cardinality(columns) = 1
+        entry := (relation, columns, krl.free_key(1 + stripes), stripes, cardinality(columns) = 1
             AND (SELECT atttypid IN ('smallint'::regtype, 'integer'::regtype, 'bigint'::regtype)
                 FROM pg_attribute WHERE attrelid = relation AND attname = columns[1]));
-        INSERT INTO krl.free_keys AS free (first) VALUES (1 + cache.stripes)
-        ON CONFLICT (is_only) DO UPDATE SET first = free.first + excluded.first
-        RETURNING free.first - cache.stripes - 1 INTO entry.mark;
         INSERT INTO krl.cached SELECT entry.*;
     END IF;
     PERFORM krl.make(entry.mark, 1 + entry.stripes);
@@ -220,21 +221,23 @@ REVOKE ALL ON FUNCTION krl.cache(regclass, name[], integer) FROM PUBLIC;
 COMMENT ON FUNCTION krl.cache(regclass, name[], integer) IS
     'lets readers keep rows of the table; called again, also those of new partitions, and by another store of krl';
 
--- The table and all its partitions get the triggers that they lack, and all of them fire always. Partitions have that
--- of rows from their table, and so their owner makes it, but not that of TRUNCATE.
+-- The table and all its partitions get the triggers that they lack, also in place of those of other stripes, which a
+-- table has that was restored by itself; and all of them fire always. Partitions have that of rows from their table,
+-- and so their owner makes it, but not that of TRUNCATE.
 CREATE FUNCTION krl.add_triggers(cached krl.cached) RETURNS void
     LANGUAGE plpgsql SET search_path = pg_catalog, pg_temp AS $$
 DECLARE
-    arguments text := (SELECT string_agg(quote_literal(word), ', ') FROM unnest(
-        ARRAY[cached.mark::text, cached.stripes::text,
-            CASE WHEN cached.by_remainder THEN 'remainder' ELSE 'hash' END]
-        || cached.key_columns::text[]) AS word);
+    words text[] := ARRAY[cached.mark::text, cached.stripes::text,
+        CASE WHEN cached.by_remainder THEN 'remainder' ELSE 'hash' END] || cached.key_columns::text[];
+    arguments text := (SELECT string_agg(quote_literal(word), ', ') FROM unnest(words) AS word);
+    stored bytea := (SELECT string_agg(convert_to(word, getdatabaseencoding()) || '\x00', '')
+        FROM unnest(words) AS word);
     part regclass;
     name name;
 BEGIN
     IF NOT EXISTS (SELECT FROM pg_trigger
-        WHERE tgrelid = cached.relation AND tgname = 'krl_changed') THEN
-        EXECUTE format('CREATE TRIGGER krl_changed AFTER INSERT OR UPDATE OR DELETE ON %s
+        WHERE tgrelid = cached.relation AND tgname = 'krl_changed' AND tgargs = stored) THEN
+        EXECUTE format('CREATE OR REPLACE TRIGGER krl_changed AFTER INSERT OR UPDATE OR DELETE ON %s
             FOR EACH ROW EXECUTE FUNCTION krl.changed(%s)', cached.relation, arguments);
     END IF;
     FOR part IN

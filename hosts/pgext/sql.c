@@ -40,8 +40,9 @@ typedef struct Wanted
 	int			count;
 } Wanted;
 
-static const Trigger *
-enabled_trigger(Relation relation, const char *name)
+/* Whether the relation has this trigger of a table with this mark, which always fires. */
+static bool
+has_trigger(Relation relation, const char *name, uint32 mark)
 {
 	for (int i = 0; relation->trigdesc && i < relation->trigdesc->numtriggers; i++)
 	{
@@ -49,9 +50,14 @@ enabled_trigger(Relation relation, const char *name)
 
 		if (trigger->tgenabled == TRIGGER_FIRES_ALWAYS && strcmp(trigger->tgname, name) == 0 &&
 			krl_is_trigger_function(trigger->tgfoid))
-			return trigger;
+		{
+			KrlStripes	stripes;
+
+			krl_read_stripes(trigger, &stripes);
+			return stripes.mark == mark;
+		}
 	}
-	return NULL;
+	return false;
 }
 
 /*
@@ -73,19 +79,12 @@ static bool
 is_guarded(Oid oid, uint32 mark)
 {
 	Relation	relation = try_relation_open(oid, AccessShareLock);
-	const Trigger *trigger;
-	bool		result = false;
+	bool		result;
 
 	if (!relation)
 		return false;
-	trigger = enabled_trigger(relation, KRL_ROW_TRIGGER);
-	if (trigger && enabled_trigger(relation, KRL_TRUNCATE_TRIGGER) && is_plain(relation))
-	{
-		KrlStripes	stripes;
-
-		krl_read_stripes(trigger, &stripes);
-		result = stripes.mark == mark;
-	}
+	result = has_trigger(relation, KRL_ROW_TRIGGER, mark) &&
+		has_trigger(relation, KRL_TRUNCATE_TRIGGER, mark) && is_plain(relation);
 	relation_close(relation, AccessShareLock);
 	return result;
 }

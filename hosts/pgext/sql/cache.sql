@@ -90,11 +90,28 @@ SELECT krl.cache('part', stripes => 16);
 SELECT tgrelid::regclass AS relation, tgname, tgenabled FROM pg_trigger
     WHERE tgname LIKE 'krl%' AND tgrelid::regclass::text LIKE 'part%' ORDER BY 1, 2;
 
--- The stripes of a table are never used again.
+-- The keys of a table that is no longer cached are those of the next one for which they suffice.
 SELECT krl.uncache('note');
 SELECT tgname FROM pg_trigger WHERE tgrelid = 'note'::regclass;
-SELECT krl.cache('note', '{author}', 16);
-SELECT mark FROM krl.cached WHERE relation = 'note'::regclass;
+SELECT krl.cache('note', '{author}', 17);
+CREATE TABLE restored (id bigint PRIMARY KEY);
+SELECT krl.cache('restored', stripes => 7);
+SELECT krl.cache('covered', stripes => 8);
+SELECT relation, mark, stripes FROM krl.cached ORDER BY mark;
+\set VERBOSITY terse
+INSERT INTO krl.cached VALUES ('keyless', '{id}', 132, 3, true);
+\set VERBOSITY default
+
+-- A trigger of other stripes, as a table has that was restored without krl.cached, is replaced.
+SELECT krl.uncache('restored');
+CREATE TRIGGER krl_changed AFTER INSERT OR UPDATE OR DELETE ON restored
+    FOR EACH ROW EXECUTE FUNCTION krl.changed('82', '8', 'remainder', 'id');
+SELECT krl.cache('restored', stripes => 7);
+SELECT krl.cache('restored');
+SELECT tgname, tgenabled, encode(tgargs, 'escape') FROM pg_trigger WHERE tgrelid = 'restored'::regclass ORDER BY 1;
+SELECT krl.uncache('restored');
+SELECT krl.uncache('covered');
+DROP TABLE restored;
 
 -- The triggers of cached tables need the extension.
 \set VERBOSITY terse

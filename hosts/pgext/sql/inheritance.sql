@@ -35,6 +35,19 @@ ALTER TABLE whole DETACH PARTITION half;
 SELECT krl.uncache('whole');
 SELECT tgname FROM pg_trigger WHERE tgrelid IN ('whole'::regclass, 'half'::regclass, 'part1'::regclass);
 DROP TABLE whole, half;
+
+-- One that becomes that of another cached table has the trigger of TRUNCATE of the first until krl.cache is called.
+CREATE TABLE early (id bigint PRIMARY KEY) PARTITION BY RANGE (id);
+CREATE TABLE late (id bigint PRIMARY KEY) PARTITION BY RANGE (id);
+CREATE TABLE moved PARTITION OF early FOR VALUES FROM (0) TO (10);
+SELECT krl.cache('early', stripes => 16);
+SELECT krl.cache('late', stripes => 16);
+ALTER TABLE early DETACH PARTITION moved;
+ALTER TABLE late ATTACH PARTITION moved FOR VALUES FROM (0) TO (10);
+SELECT quiet('late', 1);
+SELECT krl.cache('late');
+SELECT quiet('late', 1);
+DROP TABLE early, late;
 SELECT FROM since();
 
 -- Tables that inherit.
