@@ -84,7 +84,7 @@ GRANT SELECT ON krl.workers TO pg_monitor;
 REVOKE ALL ON FUNCTION krl.worker(integer) FROM PUBLIC;
 GRANT EXECUTE ON FUNCTION krl.worker(integer) TO pg_monitor;
 
-CREATE FUNCTION krl.requests(OUT pid integer, OUT key bigint, OUT is_in_work boolean)
+CREATE FUNCTION krl.requests(OUT pid integer, OUT key bigint, OUT end_key bigint, OUT is_in_work boolean)
     RETURNS SETOF record LANGUAGE C STRICT VOLATILE AS 'MODULE_PATHNAME', 'krl_requests';
 REVOKE ALL ON FUNCTION krl.requests() FROM PUBLIC;
 GRANT EXECUTE ON FUNCTION krl.requests() TO pg_monitor;
@@ -95,6 +95,28 @@ CREATE VIEW krl.waiting AS
 COMMENT ON VIEW krl.waiting IS
     'the sessions that wait until rows are taken back; the relation is null if it is of another database';
 GRANT SELECT ON krl.waiting TO pg_monitor;
+
+CREATE FUNCTION krl.clients() RETURNS text
+    LANGUAGE C STRICT VOLATILE AS 'MODULE_PATHNAME', 'krl_clients';
+REVOKE ALL ON FUNCTION krl.clients() FROM PUBLIC;
+GRANT EXECUTE ON FUNCTION krl.clients() TO pg_monitor;
+COMMENT ON FUNCTION krl.clients() IS 'the clients of krl''s server, in JSON, as its status port lists them';
+
+CREATE VIEW krl.readers AS
+    WITH clients AS MATERIALIZED (
+        SELECT * FROM pg_catalog.jsonb_to_recordset(krl.clients()::jsonb -> 'clients') AS client (
+            client integer, peer text, connected_seconds double precision, slots bigint, wait jsonb))
+    SELECT client AS number, NULLIF(pg_catalog.substring(peer, 'process=([0-9]+)')::integer, 0) AS pid, peer AS address,
+        pg_catalog.clock_timestamp() - pg_catalog.make_interval(secs => connected_seconds) AS connected_since, slots,
+        ARRAY(SELECT pid FROM krl.requests() JOIN clients AS worker
+                ON (worker.wait ->> 'point')::bigint >= key AND (worker.wait ->> 'point')::bigint < end_key
+            WHERE is_in_work AND worker.wait -> 'waits_for' @> pg_catalog.to_jsonb(reader.client)) AS delays
+    FROM clients AS reader, pg_catalog.current_setting('krl.first_client') AS first
+    WHERE client NOT BETWEEN first::integer
+        AND first::integer + pg_catalog.current_setting('krl.workers')::integer - 1;
+COMMENT ON VIEW krl.readers IS
+    'the processes that may keep rows, and the sessions whose commits wait for each';
+GRANT SELECT ON krl.readers TO pg_monitor;
 
 CREATE FUNCTION krl.skipped() RETURNS bigint
     LANGUAGE C STRICT VOLATILE AS 'MODULE_PATHNAME', 'krl_skipped';

@@ -34,6 +34,7 @@ char	   *krl_tls_certificate;
 char	   *krl_tls_key;
 char	   *krl_server_program;
 char	   *krl_server_users;
+char	   *krl_status_address;
 static char *directory;
 int			krl_workers;
 int			krl_first_client;
@@ -91,6 +92,11 @@ define_connection_settings(void)
 							   "As krl-server takes them by its option --users.",
 							   &krl_server_users, "",
 							   PGC_POSTMASTER, GUC_SUPERUSER_ONLY, NULL, NULL, NULL);
+	DefineCustomStringVariable("krl.server_status",
+							   "Where the server that a worker starts shows its status, or \"off\".",
+							   "As krl-server takes it by its option --status.",
+							   &krl_status_address, "off",
+							   PGC_POSTMASTER, 0, NULL, NULL, NULL);
 	DefineCustomStringVariable("krl.table",
 							   "The name of krl's table in the certificates of its servers.",
 							   NULL, &krl_table_name, "", PGC_POSTMASTER, 0, NULL, NULL, NULL);

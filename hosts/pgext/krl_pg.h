@@ -172,6 +172,7 @@ extern char *krl_tls_certificate;
 extern char *krl_tls_key;
 extern char *krl_server_program;
 extern char *krl_server_users;
+extern char *krl_status_address;
 extern int	krl_workers;
 extern int	krl_first_client;
 extern int	krl_stripes;

@@ -141,7 +141,7 @@ start_server(void)
 	char	   *directory = krl_directory_path();
 	bool		has_users = krl_server_users[0] != '\0';
 	char	   *words[] = {
-		krl_server_program, "serve", "--create", "--status", "off",
+		krl_server_program, "serve", "--create", "--status", krl_status_address,
 		"--listen", psprintf("unix:%s", socket_path()),
 		"--store", psprintf("%s/krl.db", directory),
 		"--lease", psprintf("%dms", krl_lease),

@@ -1,7 +1,7 @@
 /*-------------------------------------------------------------------------
  *
  * status.c
- *	  What workers do, and who waits for them.
+ *	  What workers do, who waits for them, and who the clients of krl are.
  *
  *-------------------------------------------------------------------------
  */
@@ -10,6 +10,8 @@
 #include "access/htup_details.h"
 #include "fmgr.h"
 #include "funcapi.h"
+#include "lib/stringinfo.h"
+#include "storage/fd.h"
 #include "storage/proc.h"
 #include "utils/builtins.h"
 
@@ -88,7 +90,7 @@ begin_requests(FunctionCallInfo fcinfo)
 
 PG_FUNCTION_INFO_V1(krl_requests);
 
-/* krl.requests(OUT pid integer, OUT key bigint, OUT is_in_work boolean) */
+/* krl.requests(OUT pid integer, OUT key bigint, OUT end_key bigint, OUT is_in_work boolean) */
 Datum
 krl_requests(PG_FUNCTION_ARGS)
 {
@@ -96,8 +98,9 @@ krl_requests(PG_FUNCTION_ARGS)
 	int		   *next;
 	int			procno;
 	uint64		state;
-	Datum		values[3];
-	bool		nulls[3] = {false};
+	const KrlSpan *span;
+	Datum		values[4];
+	bool		nulls[4] = {false};
 
 	krl_require_shared();
 	if (SRF_IS_FIRSTCALL())
@@ -108,8 +111,44 @@ krl_requests(PG_FUNCTION_ARGS)
 	if (procno < 0)
 		SRF_RETURN_DONE(calls);
 	*next = procno + 1;
+	span = &krl_request_of(procno)->spans[KRL_PLACE(state)];
 	values[0] = Int32GetDatum(ProcGlobal->allProcs[procno].pid);
-	values[1] = Int64GetDatum((int64) krl_request_of(procno)->spans[KRL_PLACE(state)].lo);
-	values[2] = BoolGetDatum(KRL_PHASE(state) == KRL_RUNS);
+	values[1] = Int64GetDatum((int64) span->lo);
+	values[2] = Int64GetDatum((int64) span->hi);
+	values[3] = BoolGetDatum(KRL_PHASE(state) == KRL_RUNS);
 	SRF_RETURN_NEXT(calls, HeapTupleGetDatum(heap_form_tuple(calls->tuple_desc, values, nulls)));
+}
+
+PG_FUNCTION_INFO_V1(krl_clients);
+
+/* krl.clients(), as krl-server prints them */
+Datum
+krl_clients(PG_FUNCTION_ARGS)
+{
+	StringInfoData printed;
+	char		part[1024];
+	size_t		count;
+	FILE	   *program;
+
+	krl_require_shared();
+	if (strcmp(krl_status_address, "off") == 0)
+		ereport(ERROR,
+				(errcode(ERRCODE_OBJECT_NOT_IN_PREREQUISITE_STATE),
+				 errmsg("krl's server does not show its status"),
+				 errhint("Set krl.server_status, such as to 127.0.0.1:7401, and restart the server.")));
+	program = OpenPipeStream(psprintf("'%s' clients --json '%s'", krl_server_program, krl_status_address),
+							 PG_BINARY_R);
+	if (!program)
+		ereport(ERROR,
+				(errcode_for_file_access(),
+				 errmsg("could not execute \"%s\": %m", krl_server_program)));
+	initStringInfo(&printed);
+	while ((count = fread(part, 1, sizeof(part), program)) > 0)
+		appendBinaryStringInfo(&printed, part, count);
+	if (ClosePipeStream(program) != 0)
+		ereport(ERROR,
+				(errcode(ERRCODE_CONNECTION_FAILURE),
+				 errmsg("krl's server does not show its status at \"%s\"", krl_status_address),
+				 errhint("The log of PostgreSQL has what the program printed.")));
+	PG_RETURN_TEXT_P(cstring_to_text_with_len(printed.data, printed.len));
 }

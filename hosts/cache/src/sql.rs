@@ -9,7 +9,7 @@ use std::sync::Arc;
 use tokio_postgres::types::{ToSql, Type};
 
 /// Reports which stripes are quiet. They are asked for one by one only if not all of them are. The
-/// table is found by its name: if another one has it now, that one has other stripes.
+/// table is found by its name: before another one had it, the first one's mark was taken.
 pub(crate) const QUIET: &str = "
     SELECT CASE WHEN krl.quiet($1, pg_catalog.to_regclass($2), $3, $4) THEN $4 ELSE ARRAY(
         SELECT stripe FROM pg_catalog.unnest($4) AS stripe

@@ -2,6 +2,7 @@
 import os
 import shutil
 import signal
+import socket
 import subprocess
 from contextlib import suppress
 from pathlib import Path
@@ -99,11 +100,17 @@ class Installation:
                 it.end()
 
 
+def free_port():
+    """A port of the loopback at which nothing listens."""
+    with socket.create_server(("127.0.0.1", 0)) as listener:
+        return listener.getsockname()[1]
+
+
 class KrlServer:
     """A server of krl."""
 
-    def __init__(self, installation, name="krl", lease=LEASE, environment=None):
-        self.folder, self.name, self.lease = installation.folder, name, lease
+    def __init__(self, installation, name="krl", lease=LEASE, status="off", environment=None):
+        self.folder, self.name, self.lease, self.status = installation.folder, name, lease, status
         self.environment = {**os.environ, **(environment or {})}
         self.program = installation.top / "bin/krl-server"
         self.address = f"unix:{self.folder}/{name}.socket"
@@ -115,7 +122,7 @@ class KrlServer:
         """Starts it. Clients wait until it listens."""
         with open(self.folder / f"{self.name}.log", "ab") as log:
             words = ["serve", "--create", "--listen", self.address, "--store", f"{self.name}.db"]
-            words += ["--status", "off", "--lease", self.lease]
+            words += ["--status", self.status, "--lease", self.lease]
             how = {"cwd": self.folder, "stdin": subprocess.DEVNULL, "stdout": log, "stderr": log}
             self.process = subprocess.Popen([self.program, *words], env=self.environment, **how)
 

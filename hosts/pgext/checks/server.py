@@ -3,7 +3,7 @@ import os
 import signal
 from pathlib import Path
 
-from checks.cluster import LEASE, Cluster
+from checks.cluster import LEASE, Cluster, free_port
 from checks.processes import expect, is_running, running, wait_until
 
 
@@ -25,6 +25,12 @@ def check_use(cluster, reader):
     keys = cluster.keep(reader, "item", 5, 6)
     cluster.sql("UPDATE item SET n = n + 1 WHERE id = 5")
     expect("what a reader has after a write", reader.held(keys), [*keys[:2], keys[3]])
+
+
+def check_status(cluster, reader):
+    """It shows its status where the setting states."""
+    shown = "SELECT number, pid FROM krl.readers"
+    wait_until("the reader is shown", lambda: cluster.sql(shown) == f"0|{reader.process.pid}")
 
 
 def check_killed(cluster, reader):
@@ -65,7 +71,7 @@ def refuses_store(cluster):
 
 def check_copy(installation, cluster):
     """A copy of the cluster has another store, and refuses it: readers may keep rows by the server of the first."""
-    copy = Cluster(installation, "backup", 5433, f"krl.lease = {LEASE}", copy_of=cluster)
+    copy = Cluster(installation, "backup", 5433, f"krl.lease = {LEASE}", "krl.server_status = off", copy_of=cluster)
     copy.control("promote")
     expect("whether the copy refuses the store of its server", refuses_store(copy), True)
     copy.stop()
@@ -96,12 +102,14 @@ def check_end(cluster):
 
 def check(installation):
     """Checks all of these."""
-    cluster = Cluster(installation, "server", 5432, f"krl.lease = {LEASE}")
+    cluster = Cluster(installation, "server", 5432, f"krl.lease = {LEASE}",
+                      f"krl.server_status = '127.0.0.1:{free_port()}'")
     cluster.sql("CREATE EXTENSION krl")
     cluster.make_table("item")
     cluster.await_workers()
     reader = cluster.reader(cluster.sql("SELECT krl.servers()"))
     check_use(cluster, reader)
+    check_status(cluster, reader)
     check_copy(installation, cluster)
     check_killed(cluster, reader)
     check_suspended(cluster)

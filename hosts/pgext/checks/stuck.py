@@ -2,7 +2,7 @@
 import signal
 import time
 
-from checks.cluster import Cluster, KrlServer, expect_refused
+from checks.cluster import Cluster, KrlServer, expect_refused, free_port
 from checks.processes import expect, wait_until
 
 # Longer than the check takes: what waits for the reader waits until it continues.
@@ -77,6 +77,22 @@ def check_many_stripes(cluster, stopped, other):
         waiting.end()
 
 
+def check_shown(cluster, stopped, other):
+    """krl.readers shows which processes are readers, and which commits wait for the one that has stopped."""
+    shown = "SELECT number, pid, address LIKE 'unix:user=%', now() - connected_since < '1 hour', slots > 0, delays " \
+        "FROM krl.readers ORDER BY number"
+    cluster.keep(stopped, "item", 60, 61)
+    cluster.keep(other, "item", 62)
+    session = cluster.session()
+    stopped.stop()
+    session.send("UPDATE item SET n = n + 1 WHERE id IN (60, 61)")
+    expected = f"0|{stopped.process.pid}|t|t|t|{{{session.pid}}}\n1|{other.process.pid}|t|t|t|{{}}"
+    wait_until("both readers are shown", lambda: cluster.sql(shown) == expected, seconds=30)
+    stopped.resume()
+    expect("a commit that has waited", session.result(), "")
+    session.end()
+
+
 def check_ended(cluster, krl):
     """However the process of a reader ends, a commit of its rows does not wait for its lease."""
     for number, *words in ((signal.SIGKILL,), (signal.SIGTERM,), (signal.SIGTERM, "leaves")):
@@ -92,8 +108,10 @@ def check_ended(cluster, krl):
 
 def check(installation):
     """Checks all of these."""
-    krl = KrlServer(installation, lease=LEASE)
+    status = f"127.0.0.1:{free_port()}"
+    krl = KrlServer(installation, lease=LEASE, status=status)
     settings = [f"krl.servers = '{krl.address}'", f"krl.lease = {LEASE}", f"krl.workers = {WORKERS}"]
+    settings += [f"krl.server_status = '{status}'"]
     cluster = Cluster(installation, "stuck", 5432, *settings)
     cluster.sql("CREATE EXTENSION krl")
     cluster.make_table("item")
@@ -102,4 +120,5 @@ def check(installation):
     check_one_stripe(cluster, stopped, other)
     check_late_requests(cluster, stopped, other)
     check_many_stripes(cluster, stopped, other)
+    check_shown(cluster, stopped, other)
     check_ended(cluster, krl)

@@ -14,9 +14,19 @@ SELECT krl.suspend(true);
 SELECT krl.resume();
 SELECT krl.nonce();
 SELECT * FROM krl.workers;
+SELECT * FROM krl.readers;
+SELECT krl.clients();
 CREATE TEMP TABLE own (id bigint);
 CREATE TRIGGER krl_changed AFTER INSERT ON own FOR EACH ROW EXECUTE FUNCTION krl.changed('0', '1', 'hash', 'id');
 RESET ROLE;
+GRANT pg_monitor TO reader;
+SET ROLE reader;
+SELECT number, is_ready FROM krl.workers;
+SELECT relation FROM krl.waiting;
+-- krl's server shows no status here.
+SELECT * FROM krl.readers;
+RESET ROLE;
+REVOKE pg_monitor FROM reader;
 
 -- SELECT on the table is the right to keep its rows.
 GRANT SELECT ON part TO reader;

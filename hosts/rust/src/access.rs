@@ -100,7 +100,9 @@ impl Access {
                 TlsSession::new(tls, Side::Accepts).map(|session| Entry::Unknown(Box::new(session)))
             }
             (PeerAddress::Tcp(_), _) if !accepted.is_tls => Ok(Entry::Known(Identity::everybody())),
-            (PeerAddress::Unix(Some(user)), _) => Ok(Entry::Known(self.of_user(user, own_user()))),
+            (PeerAddress::Unix(Some(peer)), _) => {
+                Ok(Entry::Known(self.of_user(peer.user, own_user())))
+            }
             _ => Err(ErrorKind::PermissionDenied.into()),
         }
     }

@@ -106,6 +106,7 @@ pub use net::servers::Servers;
 pub use net::stream::{Listener, PeerAddress};
 #[cfg(feature = "tls")]
 pub use net::tls::{Certificate, TlsConfig, TlsError};
+pub use net::unix_peer::UnixPeer;
 pub use proved::losses::Tenure;
 pub use proved::partition::Part;
 pub use server::Server;

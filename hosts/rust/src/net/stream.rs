@@ -1,7 +1,7 @@
 //! Connections over TCP or over a Unix socket.
 use crate::net::address::Address;
 use crate::net::connect_fault::NothingListens;
-use crate::net::unix_peer::user_at;
+use crate::net::unix_peer::UnixPeer;
 use nix::sys::socket::MsgFlags;
 use socket2::{Domain, SockAddr, SockRef, Socket, TcpKeepalive, Type};
 use std::fmt;
@@ -59,14 +59,15 @@ pub(crate) struct Accepted {
     pub is_tls: bool,
 }
 
-/// Who is at the other end of a connection. It shows as `10.0.0.9:51234`, `unix:user=1001` or `unix:`.
+/// Who is at the other end of a connection. It shows as `10.0.0.9:51234`,
+/// `unix:user=1001,process=4242` or `unix:`.
 #[derive(Clone, Copy, Debug, PartialEq, Eq)]
 #[non_exhaustive]
 pub enum PeerAddress {
     /// A process that connected from this address, by TCP or TLS.
     Tcp(SocketAddr),
-    /// A process of this machine, by a Unix socket, of this user, if the system knows that.
-    Unix(Option<u32>),
+    /// A process of this machine, by a Unix socket, if the system knows which one.
+    Unix(Option<UnixPeer>),
     /// The connection is closed already.
     Gone,
 }
@@ -93,7 +94,7 @@ impl fmt::Display for PeerAddress {
     fn fmt(&self, f: &mut fmt::Formatter<'_>) -> fmt::Result {
         match self {
             PeerAddress::Tcp(address) => address.fmt(f),
-            PeerAddress::Unix(Some(user)) => write!(f, "unix:user={user}"),
+            PeerAddress::Unix(Some(peer)) => write!(f, "unix:{peer}"),
             PeerAddress::Unix(None) => f.write_str("unix:"),
             PeerAddress::Gone => f.write_str("gone"),
         }
@@ -170,7 +171,7 @@ impl Listener {
             Listener::Tls(listener) => Accepted::of_tcp(listener.accept()?, true),
             Listener::Unix(listener) => {
                 let stream = listener.accept()?.0;
-                let peer = PeerAddress::Unix(user_at(&stream).ok());
+                let peer = PeerAddress::Unix(UnixPeer::of(&stream).ok());
                 Ok(Accepted { stream: stream.into(), peer, is_tls: false })
             }
         }

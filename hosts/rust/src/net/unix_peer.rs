@@ -1,13 +1,33 @@
 //! Who is at the other end of a Unix socket.
 use nix::sys::socket::{getsockopt, sockopt};
 use nix::unistd::Uid;
+use std::fmt;
 use std::io;
 use std::os::fd::AsRawFd;
 use std::os::unix::net::UnixStream;
 
-/// The user at the other end, as the system saw it when the connection was made.
-pub(crate) fn user_at(stream: &UnixStream) -> io::Result<u32> {
-    Ok(getsockopt(stream.as_raw_fd(), sockopt::PeerCredentials)?.uid())
+/// The process at the other end of a Unix socket, as the system saw it when it connected. It shows as
+/// `user=1001,process=4242`.
+#[derive(Clone, Copy, Debug, PartialEq, Eq)]
+#[non_exhaustive]
+pub struct UnixPeer {
+    /// The number of its user.
+    pub user: u32,
+    /// Its number, or 0 if this process does not see it, as from another container.
+    pub process: i32,
+}
+
+impl UnixPeer {
+    pub(crate) fn of(stream: &UnixStream) -> io::Result<UnixPeer> {
+        let credentials = getsockopt(stream.as_raw_fd(), sockopt::PeerCredentials)?;
+        Ok(UnixPeer { user: credentials.uid(), process: credentials.pid() })
+    }
+}
+
+impl fmt::Display for UnixPeer {
+    fn fmt(&self, f: &mut fmt::Formatter<'_>) -> fmt::Result {
+        write!(f, "user={},process={}", self.user, self.process)
+    }
 }
 
 /// The user as whom this process runs.
@@ -20,8 +40,11 @@ mod tests {
     use super::*;
 
     #[test]
-    fn the_own_user_is_at_the_other_end_of_a_pair() {
+    fn this_process_is_at_the_other_end_of_a_pair() {
         let (one, _other) = UnixStream::pair().unwrap();
-        assert_eq!(user_at(&one).unwrap(), own_user());
+        let peer = UnixPeer::of(&one).unwrap();
+        assert_eq!((peer.user, peer.process), (own_user(), std::process::id().cast_signed()));
+        let shown = format!("user={},process={}", own_user(), std::process::id());
+        assert_eq!(peer.to_string(), shown);
     }
 }
