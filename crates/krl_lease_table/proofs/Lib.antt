@@ -1,4 +1,9 @@
 pub mod FlatRows
 pub mod Facts
+pub mod Waiting
 pub mod Follows
+pub mod Evicting
+pub mod Registering
+pub mod Signs
+pub mod Evicted
 pub mod Starting

@@ -61,34 +61,42 @@ has_word s row j = let asks = rows.asks s.terms row j in asks.over == asks.regis
 abbrev pub with_standing : State → Bool → machine.Standing → State
 with_standing v b standing = record v { standing = if b then standing else v.standing }
 
--- Only a sign that was sent is heard. If it is one of the incarnation, and that has not ended, it waits for the terms
-abbrev pub IsHeard : ℕ → Server → Row → Sign → State → State → Type 0
-IsHeard i s row x v v' =
+-- Only a sign that was sent is heard, with the client's clock at that moment as its stamp. If it is one of the
+-- incarnation, and that has not ended, it waits for the terms
+abbrev pub IsHeard : ℕ → Clocks → Server → Row → Sign → State → State → Type 0
+IsHeard i clocks s row x v v' =
     ((x.incarnation ≡ i → rows.has_ended row i ≡ true) × (v' ≡ v))
     ⊎ ((sign : machine.Sign) × In sign v.signs × (x.incarnation ≡ i) × (x.said ≡ sign.said)
-    × (rows.has_ended row i ≡ false)
+    × (x.stamp ≡ clocks.client sign.moment) × (rows.has_ended row i ≡ false)
     × (v' ≡ record v { waiting = record { moment = sign.moment; length = s.terms.length } ∷ v.waiting }))
 
--- terms that the table gives are sent on the connection on which the sign came, or are lost
+-- a sign of this moment has come on the connection, and waits
+abbrev pub Waits : ℕ → State → Type 0
+Waits moment v = (length : ℕ) × In (record { moment = moment; length = length }) v.waiting
+
+-- Terms that the table gives are sent as it gives them, on the connection on which a sign has come, or are lost. They
+-- have a stamp: their moment is one with this stamp, at which a sign was sent that waits, if there is such a moment
 abbrev pub AreSent : ℕ → Clocks → Server → Row → ℕ → State → State → Type 0
 AreSent i clocks s row made v v' =
     (v' ≡ v)
     ⊎ ((g : Grant) × (moment : ℕ) × (rows.grant s.terms row made ≡ Some g) × (g.incarnation ≡ i)
-    × (g.stamp ≡ clocks.client moment) × In (record { moment = moment; length = g.length }) v.waiting
+    × (v.waiting ≡ [] → ⊥) × (g.stamp ≡ clocks.client moment)
+    × ((asked : ℕ) → Waits asked v → g.stamp ≡ clocks.client asked → Waits moment v)
     × (v' ≡ machine.confirmed v (record { moment = moment; length = g.length })))
 
--- What a call does to the incarnation. It counts as evicted once the table has it evicted, and once it makes room for
--- another one without anybody's word that it is over
+-- What a call does to the incarnation. It counts as evicted once the table has it evicted, once it makes room for
+-- another one without anybody's word that it is over, and if another one is registered while it may answer
 abbrev pub Happens : ℕ → Clocks → Server → Row → Row → State → Call → State → Type 0
-Happens i clocks s row row' v (Signs x commits) v' = IsHeard i s row x v v'
+Happens i clocks s row row' v (Signs x commits) v' = IsHeard i clocks s row x v v'
 Happens i clocks s row row' v (TakesTerms made) v' = AreSent i clocks s row made v v'
 Happens i clocks s row row' v (Admits j) v' =
     v' ≡ with_standing v (ends i row row' && not (has_word s row j)) Evicted
 Happens i clocks s row row' v (Registers j) v' =
-    (begins i row row' ≡ true → v.says_hello ≡ true) × (v' ≡ with_standing v (begins i row row') Registered)
+    (begins i row row' ≡ true → v.says_hello ≡ true)
+    × (v' ≡ with_standing (with_standing v (ends i row row') Evicted) (begins i row row') Registered)
 Happens i clocks s row row' v Leaves v' = v' ≡ v
 Happens i clocks s row row' v Evicts v' = v' ≡ with_standing v (ends i row row') Evicted
-Happens i clocks s row row' v (Succeeds j) v' = v' ≡ v
+Happens i clocks s row row' v (Succeeds j) v' = v' ≡ with_standing v (ends i row row') Evicted
 Happens i clocks s row row' v (Revises longest old) v' = v' ≡ v
 
 -- what the client's host and the network do, and time

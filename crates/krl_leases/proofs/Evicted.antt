@@ -23,7 +23,7 @@ module _ (limits : Limits) (clocks : Clocks) (agree : Agree limits clocks) where
   goes w w' Revise g h = subst (Sound limits clocks) (sym g.2) (revises limits clocks agree w g.0 h (subst (ByServer limits clocks w) g.1 h.server) g.1)
   goes w w' Evict g h = subst (Sound limits clocks) (sym g.4) (evicts limits clocks agree w g.0 g.1 g.2 g.3 h)
 
-  runs : (es : List Event) (w w' : State) → Runs limits clocks w es w' → Sound limits clocks w → Sound limits clocks w'
+  pub runs : (es : List Event) (w w' : State) → Runs limits clocks w es w' → Sound limits clocks w → Sound limits clocks w'
   runs [] w w' r h = subst (Sound limits clocks) (sym r) h
   runs (e ∷ es) w w' r h = runs es r.0 w' r.2 (goes w r.0 e r.1 h)
 

@@ -1,4 +1,4 @@
-use Rattle.krl_lease_table.proofs.Follows as lemmas
+use Rattle.krl_lease_table.proofs.Evicted as lemmas
 use Rattle.krl_lease_table.proofs.laws.evicted_answer_nothing.Goals as goal
 
 pub returns : goal.returns
