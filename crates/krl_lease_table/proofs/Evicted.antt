@@ -14,7 +14,7 @@ use Rattle.krl_lease_table.specs.Rows as rows
 use Rattle.krl_lease_table.specs.Tables as tables
 use Rattle.krl_lease_table.specs.Systems as systems
 use Rattle.krl_lease_table.specs.Systems.{Call, Step, Signs, TakesTerms, Admits, Registers, Leaves, Evicts, Succeeds, Revises, Client, Calls, Goes, Runs, Starts, Happens, after, begins, with_standing}
-use Rattle.krl_lease_table.specs.Laws.{EvictedAnswerNothing}
+use Rattle.krl_lease_table.specs.Laws.{EvictedAnswerNothing, server_of}
 use Rattle.krl_lease_table.proofs.Waiting.{Asks, asks_goes}
 use Rattle.krl_lease_table.proofs.Follows.{view, Stands, Follows, and_then, same, client}
 use Rattle.krl_lease_table.proofs.Evicting.{evicts, admits}
@@ -67,9 +67,10 @@ module _ (limits : Limits) (clocks : Clocks) (agree : Agree limits clocks) (i : 
       present_as (Present until) q k = let p = h.present k until q in (standing ∙ p.0, inl p.1)
 
 pub evicted_answer_nothing : EvictedAnswerNothing
-evicted_answer_nothing limits clocks i number terms es w row row' steps v agree r none may h run e a =
-    let alone = subst (ByServer limits clocks w) none (leases.runs limits clocks agree es machine.begun w r (sound_begun limits clocks)).server in
-    let first = starts limits clocks agree i (machine.running clocks w (servers.kept_from w.kept terms) number terms) es (machine.Start number terms) w (machine.started clocks w number terms) row r (none, may, refl) refl refl refl h in
-    nothing limits clocks agree i (machine.running clocks w (servers.kept_from w.kept terms) number terms) row' v
-    (runs limits clocks agree i (machine.running clocks w (servers.kept_from w.kept terms) number terms) steps row row' (machine.started clocks w number terms) v run first
-      (λ asked q k n. absurd (n alone.waiting))) e a
+evicted_answer_nothing limits clocks i number terms es w row row' steps v agree h e a =
+    let s = server_of clocks w number terms in
+    let alone = subst (ByServer limits clocks w) h.alone (leases.runs limits clocks agree es machine.begun w h.before (sound_begun limits clocks)).server in
+    let first = starts limits clocks agree i s es (machine.Start number terms) w (machine.started clocks w number terms) row h.before (h.alone, h.may, refl) refl refl refl h.starts in
+    nothing limits clocks agree i s row' v
+    (runs limits clocks agree i s steps row row' (machine.started clocks w number terms) v h.run first
+    (λ asked q k n. absurd (n alone.waiting))) e a

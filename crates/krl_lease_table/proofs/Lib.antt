@@ -7,3 +7,4 @@ pub mod Registering
 pub mod Signs
 pub mod Evicted
 pub mod Starting
+pub mod Somewhere
