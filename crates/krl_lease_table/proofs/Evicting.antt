@@ -47,7 +47,7 @@ module _ (limits : Limits) (clocks : Clocks) (i : ℕ) (s : Server) where
         served = f.shows.served;
         unknown = λ l. absurd (omega arith);
         present = λ e. tt;
-      }))
+      }) f.same_kept)
 
   silent : (row : Row) (v v' : State) → Follows limits clocks i s row v → v' ≡ v → Follows limits clocks i s (record row { standing = Ended }) v'
   silent row v v' f g = subst (Follows limits clocks i s (record row { standing = Ended })) (sym g) (

@@ -7,13 +7,19 @@ use Rattle.krl_leases.specs.declared.until.Until.{Until}
 use Rattle.krl_leases.specs.Servers as servers
 use Rattle.krl_leases.specs.Machine as machine
 use Rattle.krl_leases.specs.Machine.{State, Unknown, Registered, Evicted}
-use Rattle.krl_lease_table.specs.Systems.{with_standing}
+use Rattle.krl_lease_table.specs.Systems.{with_standing, with_registered}
 
 pub unmoved : (v v' : State) (b : Bool) (st : machine.Standing) → v' ≡ with_standing v b st → b ≡ false → v' ≡ v
 unmoved v v' b st g e = g ∙ ap (λ c. with_standing v c st) e
 
 pub set_to : (v v' : State) (b : Bool) (st : machine.Standing) → v' ≡ with_standing v b st → b ≡ true → v' ≡ record v { standing = st }
 set_to v v' b st g e = g ∙ ap (λ c. with_standing v c st) e
+
+pub unregistered : (s : machine.Server) (v v' : State) (b : Bool) → v' ≡ with_registered s v b → b ≡ false → v' ≡ v
+unregistered s v v' b g e = g ∙ ap (λ c. with_registered s v c) e
+
+pub registered_as : (s : machine.Server) (v v' : State) (b : Bool) → v' ≡ with_registered s v b → b ≡ true → v' ≡ record v { standing = Registered; kept = servers.kept_registered v.kept s.terms }
+registered_as s v v' b g e = g ∙ ap (λ c. with_registered s v c) e
 
 pub not_and : (a : Bool) → (not a && a) ≡ false
 not_and true = refl

@@ -36,6 +36,7 @@ module _ (limits : Limits) (clocks : Clocks) (i : ℕ) (s : Server) where
   pub record Follows (row : Row) (v : State) : Type 0 where
     pub until : Until
     pub kept : Kept
+    pub same_kept : kept ≡ v.kept
     pub events : List Event
     pub run : machine.Runs limits clocks machine.begun events (view v until kept)
     pub shows : Shows row v until
@@ -49,6 +50,7 @@ module _ (limits : Limits) (clocks : Clocks) (i : ℕ) (s : Server) where
   same row row' v f lower stands = record {
     until = f.until;
     kept = f.kept;
+    same_kept = f.same_kept;
     events = f.events;
     run = f.run;
     shows = record {
@@ -59,10 +61,11 @@ module _ (limits : Limits) (clocks : Clocks) (i : ℕ) (s : Server) where
   }
 
   -- one step of the machine
-  pub moved : (row row' : Row) (v v' : State) (u' : Until) (k' : Kept) (e : Event) → (f : Follows row v) → machine.Goes limits clocks (view v f.until f.kept) e (view v' u' k') → Shows row' v' u' → Follows row' v'
-  moved row row' v v' u' k' e f g h = record {
+  pub moved : (row row' : Row) (v v' : State) (u' : Until) (k' : Kept) (e : Event) → (f : Follows row v) → machine.Goes limits clocks (view v f.until f.kept) e (view v' u' k') → Shows row' v' u' → k' ≡ v'.kept → Follows row' v'
+  moved row row' v v' u' k' e f g h q = record {
     until = u';
     kept = k';
+    same_kept = q;
     events = f.events ++ e ∷ [];
     run = and_then f.events e machine.begun (view v f.until f.kept) (view v' u' k') f.run g;
     shows = h;
@@ -106,19 +109,19 @@ module _ (limits : Limits) (clocks : Clocks) (i : ℕ) (s : Server) where
         served = f.shows.served;
         unknown = f.shows.unknown;
         present = λ e. later_end agree n v f.until row.standing (f.shows.present e);
-      }))
+      }) f.same_kept)
   client agree machine.Connect row v v' p g f = subst (Follows row) (sym g.2) (
       moved row row v (machine.connected v) f.until f.kept machine.Connect f (record s { until = f.until }, refl, refl)
-      (shown row v (machine.connected v) f.until refl refl refl f.shows))
+      (shown row v (machine.connected v) f.until refl refl refl f.shows) f.same_kept)
   client agree machine.Say row v v' p g f = subst (Follows row) (sym g.1) (
       moved row row v (machine.said v) f.until f.kept machine.Say f (g.0, refl)
-      (shown row v (machine.said v) f.until refl refl refl f.shows))
+      (shown row v (machine.said v) f.until refl refl refl f.shows) f.same_kept)
   client agree (machine.Take t) row v v' p g f = subst (Follows row) (sym g.2) (
       moved row row v (machine.taken clocks v t) f.until f.kept (machine.Take t) f (g.0, g.1, refl)
-      (shown row v (machine.taken clocks v t) f.until refl refl refl f.shows))
+      (shown row v (machine.taken clocks v t) f.until refl refl refl f.shows) f.same_kept)
   client agree machine.Hello row v v' p g f = subst (Follows row) (sym g.2) (
       moved row row v (record v { says_hello = true }) f.until f.kept machine.Hello f (g.0, g.1, refl)
-      (shown row v (record v { says_hello = true }) f.until refl refl refl f.shows))
+      (shown row v (record v { says_hello = true }) f.until refl refl refl f.shows) f.same_kept)
   client agree (machine.Hear x) row v v' p g f = absurd p
   client agree (machine.Confirm x) row v v' p g f = absurd p
   client agree machine.Register row v v' p g f = absurd p

@@ -5,6 +5,7 @@ pub mod Follows
 pub mod Evicting
 pub mod Registering
 pub mod Signs
+pub mod Replaced
 pub mod Evicted
 pub mod Starting
 pub mod Somewhere

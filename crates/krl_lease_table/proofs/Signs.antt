@@ -78,7 +78,7 @@ module _ (limits : Limits) (clocks : Clocks) (agree : Agree limits clocks) (i : 
             served = f.shows.served;
             unknown = f.shows.unknown;
             present = λ q. st (row.registered == x.incarnation) refl q;
-          })
+          }) f.same_kept
 
   -- Terms
 
@@ -90,10 +90,10 @@ module _ (limits : Limits) (clocks : Clocks) (agree : Agree limits clocks) (i : 
       by false = f
 
   -- each sign that waits waits for terms of the server's length
-  sound : (row : Row) (v : State) → (f : Follows limits clocks i s row v) → Serves limits clocks (view limits clocks i s v f.until f.kept) (record s { until = f.until })
+  pub sound : (row : Row) (v : State) → (f : Follows limits clocks i s row v) → Serves limits clocks (view limits clocks i s v f.until f.kept) (record s { until = f.until })
   sound row v f = (leases.runs limits clocks agree f.events machine.begun (view limits clocks i s v f.until f.kept) f.run (sound_begun limits clocks)).server
 
-  is_asked : (row : Row) (made : ℕ) (v : State) (g : Grant) (moment : ℕ) → rows.grant s.terms row made ≡ Some g → g.incarnation ≡ i → (v.waiting ≡ [] → ⊥) → ((asked : ℕ) → systems.Waits asked v → g.stamp ≡ clocks.client asked → systems.Waits moment v) → Follows limits clocks i s row v → Asks clocks i s row v → In (record { moment = moment; length = g.length }) v.waiting
+  is_asked : (row : Row) (made : ℕ) (v : State) (g : Grant) (moment : ℕ) → rows.grant s.terms row made ≡ Some g → g.incarnation ≡ i → (v.waiting ≡ [] → ⊥) → ((asked : ℕ) → systems.Waits asked v.waiting → g.stamp ≡ clocks.client asked → systems.Waits moment v.waiting) → Follows limits clocks i s row v → Asks clocks i s row v → In (record { moment = moment; length = g.length }) v.waiting
   is_asked row made v g moment e k n chosen f h =
       let d = given limits clocks i s row made g e in
       let w = h d.0 d.1 (sym d.2 ∙ k) n in
@@ -101,10 +101,10 @@ module _ (limits : Limits) (clocks : Clocks) (agree : Agree limits clocks) (i : 
       let l = (sound row v f).waiting (record { moment = moment; length = c.0 }) c.1 in
       subst (λ y. In (record { moment = moment; length = y }) v.waiting) (l ∙ sym d.4) c.1
 
-  pub sends : (row : Row) (made : ℕ) (v v' : State) → systems.AreSent i clocks s row made v v' → Follows limits clocks i s row v → Asks clocks i s row v → Follows limits clocks i s (rows.granted row made) v'
+  pub sends : (row : Row) (made : ℕ) (v v' : State) → systems.AreSent i clocks s row made v.waiting v v' → Follows limits clocks i s row v → Asks clocks i s row v → Follows limits clocks i s (rows.granted row made) v'
   sends row made v v' (inl g) f h = subst (Follows limits clocks i s (rows.granted row made)) (sym g) (takes row made v f)
   sends row made v v' (inr g) f h = subst (Follows limits clocks i s (rows.granted row made)) (sym g.7) (
       let k = takes row made v f in
       moved limits clocks i s (rows.granted row made) (rows.granted row made) v (machine.confirmed v (record { moment = g.1; length = (g.0).length })) k.until k.kept (machine.Confirm (record { moment = g.1; length = (g.0).length })) k
       (record s { until = k.until }, refl, is_asked row made v g.0 g.1 g.2 g.3 g.4 g.6 f h, refl)
-      (shown limits clocks i s (rows.granted row made) v (machine.confirmed v (record { moment = g.1; length = (g.0).length })) k.until refl refl refl k.shows))
+      (shown limits clocks i s (rows.granted row made) v (machine.confirmed v (record { moment = g.1; length = (g.0).length })) k.until refl refl refl k.shows) k.same_kept)

@@ -1,10 +1,11 @@
--- A client sends a sign, takes the terms that the table gives, registers and answers. Its lease ends, and it is evicted.
+-- A client sends a sign, takes the terms that the table gives, registers and answers. Its lease ends, and it is evicted:
+-- by this server, or by another one that has replaced it.
 use Rattle.std.proofs.Common.{◌≡◌, ◌<◌, ℕ, inl, inr, true, false, List, [], ◌∷◌, refl, arith}
 use Rattle.krl_leases.specs.Lengths.{stretched}
 use Rattle.krl_leases.specs.Clocks.{Agree, MayGrant}
 use Rattle.krl_leases.specs.Machine as machine
 use Rattle.krl_leases.specs.Machine.{Server, State, Event, Evicted}
-use Rattle.krl_leases.specs.Servers.{kept_from}
+use Rattle.krl_leases.specs.Servers.{kept_from, kept_registered}
 use Rattle.krl_leases.specs.Laws.{one_second, at_most, one_clock}
 use Rattle.krl_leases.proofs.Lengths.{steady_agree}
 use Rattle.krl_lease_table.specs.declared.sign.Older.TheVariants as older
@@ -14,6 +15,7 @@ use Rattle.krl_lease_table.specs.declared.row.Row.{Row}
 use Rattle.krl_lease_table.specs.Rows as rows
 use Rattle.krl_lease_table.specs.Tables as tables
 use Rattle.krl_lease_table.specs.Systems.{Step, Client, Calls, Signs, TakesTerms, Registers, Evicts}
+use Rattle.krl_lease_table.specs.Replaced as replaced
 use Rattle.krl_lease_table.specs.Laws.{EvictsSomewhere, server_of}
 use Rattle.krl_lease_table.proofs.Starting.{starts_as_stored}
 
@@ -81,13 +83,29 @@ abbrev greets : State
 greets = record taken { says_hello = true }
 
 abbrev answers : State
-answers = record greets { standing = machine.Registered }
+answers = record greets { standing = machine.Registered; kept = kept_registered greets.kept one_second }
 
 abbrev later : State
 later = record answers { now = 1250000001 }
 
 abbrev ended : State
 ended = record later { standing = Evicted }
+
+-- or another server starts, while a sign still comes to the one before
+abbrev stopped : State
+stopped = machine.stopped answers
+
+abbrev other : Server
+other = server_of one_clock stopped 1 one_second
+
+abbrev restarted : State
+restarted = machine.started one_clock stopped 1 one_second
+
+abbrev signed_late : Row
+signed_late = rows.signed one_second registered sign 2 1
+
+abbrev late : State
+late = record restarted { now = 1250000001 }
 
 abbrev to_answer : List Step
 to_answer =
@@ -106,6 +124,8 @@ evicts_somewhere = (
   Client (machine.Pass 1250000000) ∷ Calls Evicts ∷ [],
   answers,
   ended,
+  replaced.Elsewhere (machine.Start 1 one_second) ∷ replaced.There (Signs sign 2) ∷ replaced.There (TakesTerms 2) ∷ replaced.Elsewhere (machine.Pass 1250000000) ∷ replaced.Elsewhere machine.Evict ∷ [],
+  record late { standing = Evicted },
   agree,
   record {
     before = (before, refl, refl);
@@ -141,5 +161,31 @@ evicts_somewhere = (
   },
   refl,
   (registered, later, (tt, refl, refl), (evicted, ended, (refl, refl), (refl, refl))),
+  refl,
+  (
+    registered,
+    terms ∷ [],
+    restarted,
+    ((refl, may, refl), refl, refl),
+    (
+      signed_late,
+      terms ∷ terms ∷ [],
+      restarted,
+      (refl, ((omega arith, inr (1, refl, refl, refl)), refl)),
+      (
+        signed_late,
+        terms ∷ terms ∷ [],
+        restarted,
+        (refl, (omega arith, refl, inl refl)),
+        (
+          signed_late,
+          terms ∷ terms ∷ [],
+          late,
+          (refl, refl, refl),
+          (signed_late, terms ∷ terms ∷ [], record late { standing = Evicted }, ((other, refl, refl, refl, refl), refl, refl), refl),
+        ),
+      ),
+    ),
+  ),
   refl,
 )

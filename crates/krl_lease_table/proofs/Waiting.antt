@@ -66,24 +66,24 @@ module _ (limits : Limits) (clocks : Clocks) (i : ℕ) (s : Server) where
       by true e = h
       by false e = asks (not (row.registered == x.incarnation) && rows.serves_registered row) e
 
+  -- the registered incarnation's own sign takes the place of each earlier one
+  pub stays : (row : Row) (x : Sign) → x.incarnation ≡ i → (o : Option Asked) → row.asked ≡ o → (not (row.registered == x.incarnation) && (rows.is_of o row.registered && standings.may_answer row.standing)) ≡ true → (asked : Asked) → row.asked ≡ Some asked → asked.incarnation ≡ i → ⊥
+  stays row x k None e c asked a q = none-some asked (sym e ∙ a)
+  stays row x k (Some found) e c asked a q =
+      let p = and_parts (not (row.registered == x.incarnation)) (rows.is_of (Some found) row.registered && standings.may_answer row.standing) c in
+      let r = and_parts (found.incarnation == row.registered) (standings.may_answer row.standing) p.1 in
+      let same = same_Some found asked (sym e ∙ a) in
+      eqb-false row.registered x.incarnation (not-true (row.registered == x.incarnation) p.0)
+      (sym (eqb-true found.incarnation row.registered r.0) ∙ ap (λ (y : Asked). y.incarnation) same ∙ q ∙ sym k)
+
   own : (row : Row) (x : Sign) (commits now : ℕ) (v : State) (sign : machine.Sign) → x.incarnation ≡ i → x.stamp ≡ clocks.client sign.moment → rows.has_ended row i ≡ false → Asks clocks i s (rows.signed s.terms row x commits now) (record v { waiting = record { moment = sign.moment; length = s.terms.length } ∷ v.waiting })
   own row x commits now v sign k stamp n = by (rows.has_ended row x.incarnation) refl
     where
       v' : State
       v' = record v { waiting = record { moment = sign.moment; length = s.terms.length } ∷ v.waiting }
 
-      -- the registered incarnation's own sign takes the place of each earlier one
-      stays : (o : Option Asked) → row.asked ≡ o → (not (row.registered == x.incarnation) && (rows.is_of o row.registered && standings.may_answer row.standing)) ≡ true → (asked : Asked) → row.asked ≡ Some asked → asked.incarnation ≡ i → ⊥
-      stays None e c asked a q = none-some asked (sym e ∙ a)
-      stays (Some found) e c asked a q =
-          let p = and_parts (not (row.registered == x.incarnation)) (rows.is_of (Some found) row.registered && standings.may_answer row.standing) c in
-          let r = and_parts (found.incarnation == row.registered) (standings.may_answer row.standing) p.1 in
-          let same = same_Some found asked (sym e ∙ a) in
-          eqb-false row.registered x.incarnation (not-true (row.registered == x.incarnation) p.0)
-          (sym (eqb-true found.incarnation row.registered r.0) ∙ ap (λ (y : Asked). y.incarnation) same ∙ q ∙ sym k)
-
       asks : (c : Bool) → (not (row.registered == x.incarnation) && rows.serves_registered row) ≡ c → (asked : Asked) → (if c then row.asked else Some (record { incarnation = x.incarnation; stamp = x.stamp; commits = commits })) ≡ Some asked → asked.incarnation ≡ i → (v'.waiting ≡ [] → ⊥) → OfStamp clocks s asked.stamp v'
-      asks true c asked a q m = absurd (stays row.asked refl c asked a q)
+      asks true c asked a q m = absurd (stays row x k row.asked refl c asked a q)
       asks false c asked a q m =
           (sign.moment, inl refl, sym (ap (λ (y : Asked). y.stamp) (same_Some (record { incarnation = x.incarnation; stamp = x.stamp; commits = commits }) asked a)) ∙ stamp)
 
@@ -101,7 +101,7 @@ module _ (limits : Limits) (clocks : Clocks) (i : ℕ) (s : Server) where
       by false = kept row row v v' refl q h
 
   -- what the table gives is for a sign that waits in the row, and as long as the server's leases are
-  pub given : (row : Row) (made : ℕ) (g : Grant) → rows.grant s.terms row made ≡ Some g → (asked : Asked) × (row.asked ≡ Some asked) × (g.incarnation ≡ asked.incarnation) × (g.stamp ≡ asked.stamp) × (g.length ≡ s.terms.length)
+  pub given : (row : Row) (made : ℕ) (g : Grant) → rows.grant s.terms row made ≡ Some g → (asked : Asked) × (row.asked ≡ Some asked) × (g.incarnation ≡ asked.incarnation) × (g.stamp ≡ asked.stamp) × (g.length ≡ s.terms.length) × (nat_lt asked.commits made ≡ true)
   given row made g e = by row.asked refl e
     where
       granted : (asked : Asked) (c : Bool) → (if c then None else Some (record { incarnation = asked.incarnation; stamp = asked.stamp; length = s.terms.length })) ≡ Some g → (g.incarnation ≡ asked.incarnation) × (g.stamp ≡ asked.stamp) × (g.length ≡ s.terms.length)
@@ -110,13 +110,13 @@ module _ (limits : Limits) (clocks : Clocks) (i : ℕ) (s : Server) where
           let same = sym (same_Some (record { incarnation = asked.incarnation; stamp = asked.stamp; length = s.terms.length }) g e) in
           (ap (λ (y : Grant). y.incarnation) same, ap (λ (y : Grant). y.stamp) same, ap (λ (y : Grant). y.length) same)
 
-      due : (asked : Asked) (c : Bool) → rows.grant_for s.terms row (if c then Some asked else None) ≡ Some g → (g.incarnation ≡ asked.incarnation) × (g.stamp ≡ asked.stamp) × (g.length ≡ s.terms.length)
-      due asked true e = granted asked (rows.has_ended row asked.incarnation) e
+      due : (asked : Asked) (c : Bool) → rows.grant_for s.terms row (if c then Some asked else None) ≡ Some g → (g.incarnation ≡ asked.incarnation) × (g.stamp ≡ asked.stamp) × (g.length ≡ s.terms.length) × (c ≡ true)
+      due asked true e = let r = granted asked (rows.has_ended row asked.incarnation) e in (r.0, r.1, r.2, refl)
       due asked false e = absurd (none-some g e)
 
-      by : (o : Option Asked) → row.asked ≡ o → rows.grant_for s.terms row (rows.due o made) ≡ Some g → (asked : Asked) × (row.asked ≡ Some asked) × (g.incarnation ≡ asked.incarnation) × (g.stamp ≡ asked.stamp) × (g.length ≡ s.terms.length)
+      by : (o : Option Asked) → row.asked ≡ o → rows.grant_for s.terms row (rows.due o made) ≡ Some g → (asked : Asked) × (row.asked ≡ Some asked) × (g.incarnation ≡ asked.incarnation) × (g.stamp ≡ asked.stamp) × (g.length ≡ s.terms.length) × (nat_lt asked.commits made ≡ true)
       by None q e = absurd (none-some g e)
-      by (Some asked) q e = let r = due asked (nat_lt asked.commits made) e in (asked, q, r.0, r.1, r.2)
+      by (Some asked) q e = let r = due asked (nat_lt asked.commits made) e in (asked, q, r.0, r.1, r.2, r.3)
 
   -- Calls that leave what waits
 

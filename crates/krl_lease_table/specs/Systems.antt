@@ -3,6 +3,7 @@
 use Rattle.std.specs.Prelude.{◌≡◌, ◌⊎◌, ◌<◌, ℕ, Bool, true, false, not, ◌&&◌, ◌||◌, ◌==◌, List, [], ◌∷◌, Some, Result, Ok, Err, if◌then◌else◌}
 use Rattle.krl_leases.specs.declared.until.Until.{Until}
 use Rattle.krl_leases.specs.Clocks.{Clocks, Limits}
+use Rattle.krl_leases.specs.Servers.{kept_registered}
 use Rattle.krl_leases.specs.Machine as machine
 use Rattle.krl_leases.specs.Machine.{Server, State, Registered, Evicted, Unknown, In}
 use Rattle.krl_lease_table.specs.declared.refused.Refused.{Refused}
@@ -61,6 +62,13 @@ has_word s row j = let asks = rows.asks s.terms row j in asks.over == asks.regis
 abbrev pub with_standing : State → Bool → machine.Standing → State
 with_standing v b standing = record v { standing = if b then standing else v.standing }
 
+-- what has to be stored of leases is stored with a registration, or before it
+abbrev pub with_registered : Server → State → Bool → State
+with_registered s v b = record v {
+  standing = if b then Registered else v.standing;
+  kept = if b then kept_registered v.kept s.terms else v.kept;
+}
+
 -- Only a sign that was sent is heard, with the client's clock at that moment as its stamp. If it is one of the
 -- incarnation, and that has not ended, it waits for the terms
 abbrev pub IsHeard : ℕ → Clocks → Server → Row → Sign → State → State → Type 0
@@ -70,30 +78,30 @@ IsHeard i clocks s row x v v' =
     × (x.stamp ≡ clocks.client sign.moment) × (rows.has_ended row i ≡ false)
     × (v' ≡ record v { waiting = record { moment = sign.moment; length = s.terms.length } ∷ v.waiting }))
 
--- a sign of this moment has come on the connection, and waits
-abbrev pub Waits : ℕ → State → Type 0
-Waits moment v = (length : ℕ) × In (record { moment = moment; length = length }) v.waiting
+-- a sign of this moment is one of those that have come on the connection
+abbrev pub Waits : ℕ → List machine.Grant → Type 0
+Waits moment came = (length : ℕ) × In (record { moment = moment; length = length }) came
 
 -- Terms that the table gives are sent as it gives them, on the connection on which a sign has come, or are lost. They
--- have a stamp: their moment is one with this stamp, at which a sign was sent that waits, if there is such a moment
-abbrev pub AreSent : ℕ → Clocks → Server → Row → ℕ → State → State → Type 0
-AreSent i clocks s row made v v' =
+-- have a stamp: their moment is one with this stamp, at which a sign was sent that came, if there is such a moment
+abbrev pub AreSent : ℕ → Clocks → Server → Row → ℕ → List machine.Grant → State → State → Type 0
+AreSent i clocks s row made came v v' =
     (v' ≡ v)
     ⊎ ((g : Grant) × (moment : ℕ) × (rows.grant s.terms row made ≡ Some g) × (g.incarnation ≡ i)
-    × (v.waiting ≡ [] → ⊥) × (g.stamp ≡ clocks.client moment)
-    × ((asked : ℕ) → Waits asked v → g.stamp ≡ clocks.client asked → Waits moment v)
+    × (came ≡ [] → ⊥) × (g.stamp ≡ clocks.client moment)
+    × ((asked : ℕ) → Waits asked came → g.stamp ≡ clocks.client asked → Waits moment came)
     × (v' ≡ machine.confirmed v (record { moment = moment; length = g.length })))
 
 -- What a call does to the incarnation. It counts as evicted once the table has it evicted, once it makes room for
 -- another one without anybody's word that it is over, and if another one is registered while it may answer
 abbrev pub Happens : ℕ → Clocks → Server → Row → Row → State → Call → State → Type 0
 Happens i clocks s row row' v (Signs x commits) v' = IsHeard i clocks s row x v v'
-Happens i clocks s row row' v (TakesTerms made) v' = AreSent i clocks s row made v v'
+Happens i clocks s row row' v (TakesTerms made) v' = AreSent i clocks s row made v.waiting v v'
 Happens i clocks s row row' v (Admits j) v' =
     v' ≡ with_standing v (ends i row row' && not (has_word s row j)) Evicted
 Happens i clocks s row row' v (Registers j) v' =
     (begins i row row' ≡ true → v.says_hello ≡ true)
-    × (v' ≡ with_standing (with_standing v (ends i row row') Evicted) (begins i row row') Registered)
+    × (v' ≡ with_registered s (with_standing v (ends i row row') Evicted) (begins i row row'))
 Happens i clocks s row row' v Leaves v' = v' ≡ v
 Happens i clocks s row row' v Evicts v' = v' ≡ with_standing v (ends i row row') Evicted
 Happens i clocks s row row' v (Succeeds j) v' = v' ≡ with_standing v (ends i row row') Evicted
