@@ -13,9 +13,12 @@
 
 #include "krl_pg.h"
 
-/* The keys of a part, and how long it may take: so often a session sees how far its rows are. */
+/* How long krl's client waits for the rows that there are. */
+#define READ_MS 5000
+
+/* The keys of a part, and how long their writes may take: so often a session sees how far its rows are. */
 #define ROWS_OF_A_PART 32
-#define PART_MS 1000
+#define WRITES_MS 1000
 
 /* Writes an insert for each key of the part that has no row, and how many these are. */
 static uint32
@@ -28,12 +31,14 @@ find_missing(krlc_client *client, KrlSpan part, krlc_write *writes, int *nwrites
 
 	*nwrites = 0;
 	if (rows)
-		code = krlc_read_once(client, part.lo, part.hi, rows, PART_MS, error);
+		code = krlc_read_once(client, part.lo, part.hi, rows, READ_MS, error);
 	next = krlc_rows_get(rows, &left);
 	for (uint64 key = part.lo; code == KRLC_OK && key < part.hi; key++)
 	{
 		if (left == 0 || next->key != key)
-			writes[(*nwrites)++] = (krlc_write) {.kind = KRLC_INSERT,.row = {.key = key}};
+			writes[(*nwrites)++] = (krlc_write) {
+				.kind = KRLC_INSERT,.outcome = KRLC_NOT_MADE,.row = {.key = key}
+			};
 		else
 		{
 			next++;
@@ -60,7 +65,7 @@ krl_insert_rows(krlc_client *client, KrlSpan *span, krlc_error *error)
 	if (code != KRLC_OK)
 		return code;
 	if (nwrites > 0)
-		code = krlc_write_all(client, writes, nwrites, PART_MS, error);
+		code = krlc_write_all(client, writes, nwrites, WRITES_MS, error);
 	while (made < nwrites && (writes[made].outcome == KRLC_OK || writes[made].outcome == KRLC_EXISTS))
 		made++;
 	span->lo = made < nwrites ? writes[made].row.key : part.hi;
