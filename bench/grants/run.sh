@@ -1,6 +1,6 @@
 #!/bin/sh
 # What grants of several slots cost, by the library only, and how much memory the clients that wait for them take. It
-# prints the tables of docs/BENCH_SESSIONS.md, "Long grants".
+# prints the tables of docs/BENCH.md, "Long grants".
 #
 #     bench/grants/run.sh [LIBRARY..]
 #
