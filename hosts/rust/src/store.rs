@@ -73,8 +73,8 @@ use std::time::Duration;
 /// # Ok::<(), Box<dyn std::error::Error>>(())
 /// ```
 pub trait Store: Send {
-    /// All that was committed, once, before anything else. What is committed from then on rests on
-    /// it.
+    /// Loads all that was committed. It is called once, before anything else; later commits build
+    /// on it.
     ///
     /// # Errors
     ///

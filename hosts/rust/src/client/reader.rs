@@ -195,8 +195,8 @@ impl Reader {
         Ok(self.read(key..=key)?.first().map(|row| row.value))
     }
 
-    /// Does it with what each server has of the keys by the map of now, and again by each next map
-    /// that is found meanwhile.
+    /// Runs `work` on each server's part of the keys by the current map, and again by each later
+    /// map.
     fn by_each_map<T>(
         &mut self,
         keys: &Range<u64>,

@@ -3,10 +3,10 @@ use crate::proved::gate::{Alone, PLACES, place};
 use std::ops::Range;
 use std::sync::atomic::{AtomicU32, Ordering};
 
-/// There are so many counts.
+/// The number of counts.
 pub(crate) const REGIONS: usize = 256;
 
-/// So many keys that follow one another have one count, which they share with others far away.
+/// This many neighboring keys share a count, also with keys far away.
 pub(crate) const REGION_KEYS: u64 = 64;
 
 /// The scans that the cache has answered. Each thread counts in a place of its own, as long as there

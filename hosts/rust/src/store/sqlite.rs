@@ -213,7 +213,7 @@ impl SqliteStore {
 
     /// Writes these rows, each in place of the one of its key if there is one, all or none. No
     /// server may run on it, and each client has left: one that has not would continue to answer
-    /// from its cache what is no longer so.
+    /// with outdated rows from its cache.
     ///
     /// # Errors
     ///

@@ -190,8 +190,8 @@ impl State {
         self.keeping.note_read(keys, self.client.hits());
     }
 
-    /// A job has read so many rows of these keys by a lock. What is not kept, and was locked since
-    /// another client excluded readers, is given back.
+    /// A job has read this many rows of these keys with a lock. What is not kept, and was locked
+    /// since another client excluded readers, is given back.
     pub(super) fn note_locked_read(&mut self, keys: &Range<u64>, rows: usize) {
         if rows <= PAGE && self.keeping.reads_unkept(keys) {
             self.keeping.given_up.push(keys.clone());

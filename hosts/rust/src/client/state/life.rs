@@ -104,9 +104,9 @@ impl Life {
 }
 
 impl Job {
-    /// What happens to an open job when the client drops all. After the end of a lease it continues
-    /// from its start. If the store went back or is another one, only those continue that join and
-    /// leave.
+    /// What happens to an open job when the client drops its state. After the end of a lease it
+    /// continues from its start. If the store went back or is another one, only those continue that
+    /// join and leave.
     fn after_drop(self, why: Dropped) -> Option<Job> {
         match (self, why) {
             (Job::Hold(taking, reply), Dropped::LeaseEnded) => {

@@ -156,9 +156,9 @@ impl State {
         self.report_changes();
     }
 
-    /// Adds a pin of what a caller has, who waits for more. **It is given up when so much time has
-    /// passed since something of it was called back**: otherwise clients could wait for each other in
-    /// a circle, since the one who has called it back may have what its caller waits for.
+    /// Adds a pin for a caller that waits for more. **It is given up when this much time has passed
+    /// since something of it was called back**: otherwise clients could wait for each other in a
+    /// circle, since the one who has called it back may have what its caller waits for.
     pub(super) fn add_pin_that_gives_way(
         &mut self,
         keys: Range<u64>,

@@ -84,7 +84,7 @@ impl EventLoop {
         !self.kept_requests.0.is_empty()
     }
 
-    /// Whether so many requests wait that came lately that others are kept.
+    /// Whether enough recent requests wait for new ones to be kept.
     fn do_many_wait(&self, now: Instant) -> bool {
         self.requests.count_waiting(now, LATELY) >= MAX_RECENT_REQUESTS
     }

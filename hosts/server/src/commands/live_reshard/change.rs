@@ -50,7 +50,7 @@ impl Opened {
 pub struct OldStore<'p, P> {
     pub place: &'p P,
     pub before: ShardBounds,
-    /// What it is after the change. One that is served no more is sealed.
+    /// What it is after the change. One that is no longer served is sealed.
     pub after: KeptShard,
 }
 

@@ -5,7 +5,7 @@ use clap::{Args, Subcommand};
 use krl::Servers;
 use std::path::{PathBuf, absolute};
 
-/// What is done with which shards.
+/// A change of shards.
 #[derive(Debug, Subcommand)]
 pub enum LiveChange {
     /// Cut a shard in two at a key
