@@ -6,7 +6,7 @@ use Rattle.krl_cached_table.specs.Steps.{LoadStep, begins, begins_elsewhere, fin
 use Rattle.krl_cached_table.proofs.Sound.{HasNotEnded, NobodyTook, IsHome, PlaceFacts, LoadFacts, Sound}
 use Rattle.krl_cached_table.proofs.Frames.{concluded, staged}
 
-locked : (s : Stage) → s ≢ Recovering → s ≢ Ended → has_locks s ≡ true
+pub locked : (s : Stage) → s ≢ Recovering → s ≢ Ended → has_locks s ≡ true
 locked Running r e = refl
 locked Prepared r e = refl
 locked Committed r e = refl

@@ -51,7 +51,7 @@ answers_are_table g w key row reachable a =
 
 -- Ranges
 
-range_same : (f h : ℕ → Option ℕ) (lo n : ℕ) → ((key : ℕ) → lo ≤ key → key < lo + n → f key ≡ h key) → range f lo n ≡ range h lo n
+pub range_same : (f h : ℕ → Option ℕ) (lo n : ℕ) → ((key : ℕ) → lo ≤ key → key < lo + n → f key ≡ h key) → range f lo n ≡ range h lo n
 range_same f h lo zero same = refl
 range_same f h lo (suc n) same =
     let here : f lo ≡ h lo = same lo (omega arith) (omega arith) in

@@ -15,7 +15,7 @@ g = record { stripe_of = λ key. 10 + key; mark_of = λ key. if eqb key 2 then 6
 
 -- One client holds all keys, and each tenure is a new one
 
-abbrev owned : ℕ → KeyPart → ℕ → ℕ → KeyPart
+abbrev pub owned : ℕ → KeyPart → ℕ → ℕ → KeyPart
 owned owner k c p = if eqb c owner then k else part.N
 
 with_N : (k : KeyPart) → keys_compatible k part.N ≡ true
@@ -24,7 +24,7 @@ with_N part.S = refl
 with_N part.U = refl
 with_N part.X = refl
 
-compatible : (owner : ℕ) (k : KeyPart) → IsCompatible (owned owner k)
+pub compatible : (owner : ℕ) (k : KeyPart) → IsCompatible (owned owner k)
 compatible owner k c d p differ = cond_both (eqb c owner) k part.N (λ a. keys_compatible a (if eqb d owner then k else part.N) ≡ true)
     (λ e. subst (λ a. keys_compatible k a ≡ true) (sym (cond-false (eqb d owner) k part.N (ne_eqb d owner (λ i. differ (eqb-true c owner e ∙ sym i))))) (with_N k))
     (λ e. refl)

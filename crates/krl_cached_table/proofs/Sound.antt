@@ -143,7 +143,7 @@ pub record Sound (g : Setting) (w : World) : Type 0 where
 
 -- Who reads a place excludes a worker that holds it in X
 
-reads_no_X : (k : KeyPart) → reads_key k ≡ true → keys_compatible k part.X ≡ true → ⊥
+pub reads_no_X : (k : KeyPart) → reads_key k ≡ true → keys_compatible k part.X ≡ true → ⊥
 reads_no_X part.N r c = true≢false (sym r)
 reads_no_X part.S r c = true≢false (sym c)
 reads_no_X part.U r c = true≢false (sym c)

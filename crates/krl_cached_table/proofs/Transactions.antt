@@ -6,13 +6,13 @@ use Rattle.krl_cached_table.specs.Steps.{put, TransactionStep, begins_another, c
 use Rattle.krl_cached_table.proofs.Sound.{IsFixed, IsProper, HasNotEnded, HasFound}
 use Rattle.krl_cached_table.proofs.Frames.{Goes}
 
-put_true : (f : ℕ → Bool) (n m : ℕ) → put f n true m ≡ true → (m ≡ n) ⊎ (f m ≡ true)
+pub put_true : (f : ℕ → Bool) (n m : ℕ) → put f n true m ≡ true → (m ≡ n) ⊎ (f m ≡ true)
 put_true f n m = cond_both (eqb m n) true (f m) (λ b. b ≡ true → (m ≡ n) ⊎ (f m ≡ true)) (λ e t. inl (eqb-true m n e)) (λ e t. inr t)
 
-put_keeps : (f : ℕ → Bool) (n m : ℕ) → f m ≡ true → put f n true m ≡ true
+pub put_keeps : (f : ℕ → Bool) (n m : ℕ) → f m ≡ true → put f n true m ≡ true
 put_keeps f n m t = cond_both (eqb m n) true (f m) (λ b. b ≡ true) (λ e. refl) (λ e. t)
 
-running_not_ended : (s : Stage) → s ≡ Running → s ≢ Ended
+pub running_not_ended : (s : Stage) → s ≡ Running → s ≢ Ended
 running_not_ended s a b = cc
 
 pub prepared_not_ended : (s : Stage) → s ≡ Prepared → s ≢ Ended
@@ -21,7 +21,7 @@ prepared_not_ended s a b = cc
 pub committed_not_ended : (s : Stage) → s ≡ Committed → s ≢ Ended
 committed_not_ended s a b = cc
 
-visible_not_ended : (s : Stage) → s ≡ Visible → s ≢ Ended
+pub visible_not_ended : (s : Stage) → s ≡ Visible → s ≢ Ended
 visible_not_ended s a b = cc
 
 pub recovering_not_ended : (s : Stage) → s ≡ Recovering → s ≢ Ended
