@@ -1,12 +1,13 @@
 //! How a table is read: by which statements, and by which stripes.
 use crate::error::ReadError;
-use crate::held::{self, Held, MarkTenures};
+use crate::held::{self, Few, Held, MarkTenures};
 use crate::key::{Key, KeyValue, Stripe, Stripes};
 use crate::locks::{CLUSTER_MARK, Locks, Marks};
 use crate::memory::Memory;
 use crate::rows::{Loaded, Rows};
 use crate::session::{Quiet, Session};
 use crate::sql::{CACHED, KeyType, QUIET_DEFINITION, Selection, TableSql};
+use smallvec::smallvec;
 use std::cell::LazyCell;
 use std::collections::BTreeSet;
 use std::num::NonZeroU32;
@@ -117,7 +118,7 @@ impl Definition {
         &self,
         wanted: &[Wanted<'_>],
         found: impl Iterator<Item = Option<Held>> + Clone,
-    ) -> Vec<Option<Held>> {
+    ) -> Few<Option<Held>> {
         let look = LazyCell::new(|| self.look());
         let mut held = self.held_still(wanted, found);
         for (held, wanted) in held.iter_mut().zip(wanted) {
@@ -131,8 +132,10 @@ impl Definition {
         &self,
         wanted: &[Wanted<'_>],
         found: impl Iterator<Item = Option<Held>> + Clone,
-    ) -> Vec<Option<Held>> {
-        let Some(Holding { locks, marks }) = &self.holding else { return vec![None; wanted.len()] };
+    ) -> Few<Option<Held>> {
+        let Some(Holding { locks, marks }) = &self.holding else {
+            return smallvec![None; wanted.len()];
+        };
         let of_marks =
             [(marks.of_table.into(), marks.tenures.table), (CLUSTER_MARK, marks.tenures.cluster)];
         let of_stripe = |(wanted, found): (&Wanted<'_>, Option<Held>)| {
@@ -177,7 +180,7 @@ impl Definition {
         })?;
         let loaded = selection.by_key(rows).into_iter().zip(kept).zip(wanted);
         let now = self.look();
-        let keep = |((rows, held), wanted): ((Arc<Rows>, _), _)| {
+        let keep = |((rows, held), wanted): ((Rows, _), _)| {
             let held = self.keep(wanted, &rows, held, now);
             (rows, held)
         };
@@ -188,7 +191,7 @@ impl Definition {
     fn keep(
         &self,
         wanted: &Wanted<'_>,
-        rows: &Arc<Rows>,
+        rows: &Rows,
         held: Option<Held>,
         now: Option<Look<'_>>,
     ) -> Option<Held> {
@@ -197,7 +200,7 @@ impl Definition {
         if !held::may_return(held, now) {
             return None;
         }
-        self.memory.keep(wanted.stripe, held, wanted.key.clone(), Arc::clone(rows));
+        self.memory.keep(wanted.stripe, held, wanted.key, rows.clone());
         Some(held)
     }
 }

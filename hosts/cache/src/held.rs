@@ -1,7 +1,11 @@
 //! Whether rows in memory may be returned. What the readers promise rests on these functions;
 //! `docs/CACHE_PROTOCOL.md` has the argument.
 use crate::key::Stripe;
+use smallvec::SmallVec;
 use std::collections::BTreeSet;
+
+/// Something for each key of a read. That of a read of one key lies in place.
+pub(crate) type Few<T> = SmallVec<[T; 1]>;
 
 /// By what the rows of a stripe are held at one moment.
 #[derive(Clone, Copy, Debug, PartialEq, Eq)]
@@ -50,9 +54,9 @@ pub(crate) fn may_return(then: Held, now: Option<Held>) -> bool {
 /// returned. The others are those of the database at one moment: the first one at which `held_now`
 /// looks, since all of them were loaded before it, and each is held without a break until after it.
 pub(crate) fn find<R>(
-    found: impl FnOnce() -> Vec<Option<(Held, R)>>,
-    held_now: impl FnOnce(&[Option<(Held, R)>]) -> Vec<Option<Held>>,
-) -> (Vec<Option<(Held, R)>>, Missing) {
+    found: impl FnOnce() -> Few<Option<(Held, R)>>,
+    held_now: impl FnOnce(&[Option<(Held, R)>]) -> Few<Option<Held>>,
+) -> (Few<Option<(Held, R)>>, Missing) {
     let found = found();
     let held = held_now(&found);
     let is_here = |place: &usize| {
@@ -66,7 +70,7 @@ pub(crate) fn find<R>(
 #[derive(Debug)]
 pub(crate) struct Missing {
     pub places: Vec<usize>,
-    pub held: Vec<Option<Held>>,
+    pub held: Few<Option<Held>>,
 }
 
 /// Loads rows of these stripes. Returns them with what each stripe was held by, if its rows may be
@@ -90,6 +94,7 @@ pub(crate) fn load<R, E>(
 #[cfg(test)]
 mod tests {
     use super::*;
+    use smallvec::smallvec;
     use std::cell::Cell;
     use std::convert::Infallible;
 
@@ -144,8 +149,8 @@ mod tests {
     #[test]
     fn what_is_not_here_or_was_lost_is_missing() {
         let (found, missing) = find(
-            || vec![Some((HELD, 1)), Some((HELD, 2)), None, Some((HELD, 4))],
-            |_| vec![Some(HELD), Some(Held { stripe: 8, ..HELD }), Some(HELD), None],
+            || smallvec![Some((HELD, 1)), Some((HELD, 2)), None, Some((HELD, 4))],
+            |_| smallvec![Some(HELD), Some(Held { stripe: 8, ..HELD }), Some(HELD), None],
         );
         assert_eq!(found[0], Some((HELD, 1)));
         assert_eq!(missing.places, [1, 2, 3]);
@@ -156,9 +161,9 @@ mod tests {
         let is_found = Cell::new(false);
         let found = || {
             is_found.set(true);
-            vec![Some((HELD, 1))]
+            smallvec![Some((HELD, 1))]
         };
-        let (_, missing) = find(found, |_| vec![is_found.get().then_some(HELD)]);
+        let (_, missing) = find(found, |_| smallvec![is_found.get().then_some(HELD)]);
         assert_eq!(missing.places, []);
     }
 

@@ -12,7 +12,7 @@ const HASH_PRIME: u32 = 16_777_619;
 const SEPARATOR: u8 = 0x1f;
 
 /// The value of one column of a key.
-#[derive(Clone, Debug, PartialEq, Eq, Hash)]
+#[derive(Clone, Debug, PartialEq, Eq, Hash, PartialOrd, Ord)]
 #[non_exhaustive]
 pub enum KeyValue {
     /// Of a column of type `smallint`, `integer` or `bigint`.
@@ -33,10 +33,10 @@ pub enum KeyValue {
 /// let of_two_columns: Key = ("at", 15).into();
 /// assert_eq!(of_two_columns.to_string(), "(at, 15)");
 /// ```
-#[derive(Clone, Debug, PartialEq, Eq, Hash)]
+#[derive(Clone, Debug, PartialEq, Eq, Hash, PartialOrd, Ord)]
 pub struct Key(Values);
 
-#[derive(Clone, Debug, PartialEq, Eq, Hash)]
+#[derive(Clone, Debug, PartialEq, Eq, Hash, PartialOrd, Ord)]
 enum Values {
     One(KeyValue),
     Several(Box<[KeyValue]>),

@@ -4,10 +4,10 @@ use crate::key::{Key, Stripe};
 use crate::rows::Rows;
 use crate::statistics::Counter;
 use crate::worth::Worth;
-use ahash::RandomState;
-use std::collections::HashMap;
+use smallvec::SmallVec;
+use std::mem;
 use std::sync::atomic::{AtomicUsize, Ordering};
-use std::sync::{Arc, PoisonError, RwLock, RwLockReadGuard, RwLockWriteGuard};
+use std::sync::{PoisonError, RwLock, RwLockReadGuard, RwLockWriteGuard};
 
 /// Rows by stripe and key. Those of one stripe are held by the same tenures.
 #[derive(Debug)]
@@ -26,8 +26,33 @@ pub(crate) struct Memory {
 struct Kept {
     /// What the stripe was held by when its rows were loaded. There are none if it is `None`.
     held: Option<Held>,
-    rows: HashMap<Key, Arc<Rows>, RandomState>,
+    rows: RowsByKey,
     worth: Worth,
+}
+
+/// Rows in the order of their keys. Those of the first key lie in place: most stripes have one.
+#[derive(Debug, Default)]
+struct RowsByKey(SmallVec<[(Key, Rows); 1]>);
+
+impl RowsByKey {
+    fn place(&self, key: &Key) -> Result<usize, usize> {
+        self.0.binary_search_by(|(other, _)| other.cmp(key))
+    }
+
+    fn get(&self, key: &Key) -> Option<&Rows> {
+        Some(&self.0[self.place(key).ok()?].1)
+    }
+
+    /// Returns what the key had before.
+    fn insert(&mut self, key: &Key, rows: Rows) -> Option<Rows> {
+        match self.place(key) {
+            Ok(place) => Some(mem::replace(&mut self.0[place].1, rows)),
+            Err(place) => {
+                self.0.insert(place, (key.clone(), rows));
+                None
+            }
+        }
+    }
 }
 
 impl Memory {
@@ -39,23 +64,22 @@ impl Memory {
     }
 
     /// The rows of the key if they are here, and what they were held by when they were loaded.
-    pub fn find(&self, stripe: Stripe, key: &Key) -> Option<(Held, Arc<Rows>)> {
+    pub fn find(&self, stripe: Stripe, key: &Key) -> Option<(Held, Rows)> {
         let kept = self.read(stripe);
-        Some((kept.held?, Arc::clone(kept.rows.get(key)?)))
+        Some((kept.held?, kept.rows.get(key)?.clone()))
     }
 
     /// Keeps the rows of a key, which were loaded while the stripe was held by this. What was kept
     /// of the stripe by something else is dropped.
-    pub fn keep(&self, stripe: Stripe, held: Held, key: Key, rows: Arc<Rows>) {
+    pub fn keep(&self, stripe: Stripe, held: Held, key: &Key, rows: Rows) {
         let mut kept = self.write(stripe);
         self.take_lost(&mut kept, Some(held));
         kept.held = Some(held);
-        self.bytes.fetch_add(rows.size(&key), Ordering::Relaxed);
+        self.bytes.fetch_add(rows.size(key), Ordering::Relaxed);
         self.keys.fetch_add(1, Ordering::Relaxed);
-        if let Some((key, older)) = kept.rows.remove_entry(&key) {
-            self.note_dropped(&key, &older);
+        if let Some(older) = kept.rows.insert(key, rows) {
+            self.note_dropped(key, &older);
         }
-        kept.rows.insert(key, rows);
         drop(kept);
         self.make_room();
     }
@@ -87,9 +111,9 @@ impl Memory {
         }
         kept.held = None;
         let mut read = Vec::new();
-        for (key, rows) in kept.rows.drain() {
+        for (key, rows) in mem::take(&mut kept.rows).0 {
             self.note_dropped(&key, &rows);
-            if rows.was_read() {
+            if rows.mark().is_set() {
                 read.push(key);
             }
         }
@@ -106,8 +130,8 @@ impl Memory {
             }
             let place = self.hand.fetch_add(1, Ordering::Relaxed) % self.stripes.len();
             let mut kept = self.stripes[place].write().unwrap_or_else(PoisonError::into_inner);
-            kept.rows.retain(|key, rows| {
-                let stays = self.fits() || rows.take_read();
+            kept.rows.0.retain(|(key, rows)| {
+                let stays = self.fits() || rows.mark().take();
                 if !stays {
                     self.note_dropped(key, rows);
                     self.evictions.add(1);
@@ -157,17 +181,17 @@ mod tests {
     const STRIPE: Stripe = Stripe(3);
 
     /// Rows of about a thousand bytes.
-    fn rows() -> Arc<Rows> {
+    fn rows() -> Rows {
         Rows::new(vec![row(&"x".repeat(800), Some(1))])
     }
 
     fn keep(memory: &Memory, stripe: Stripe, held: Held, key: i64) {
-        memory.keep(stripe, held, key.into(), rows());
+        memory.keep(stripe, held, &key.into(), rows());
     }
 
     fn read(memory: &Memory, stripe: Stripe, key: i64) -> Option<Held> {
         let (held, rows) = memory.find(stripe, &key.into())?;
-        rows.note_read();
+        rows.mark().set();
         Some(held)
     }
 
@@ -175,10 +199,11 @@ mod tests {
     fn what_is_kept_is_found_with_what_it_was_held_by() {
         let memory = Memory::new(16, 1 << 20);
         keep(&memory, STRIPE, HELD, 3);
-        memory.keep(STRIPE, HELD, 19.into(), Rows::new(Vec::new()));
+        memory.keep(STRIPE, HELD, &19.into(), Rows::new(Vec::new()));
         let (held, found) = memory.find(STRIPE, &3.into()).unwrap();
-        assert_eq!((held, found.rows.len()), (HELD, 1));
-        assert_eq!(memory.find(STRIPE, &19.into()).unwrap().1.rows.len(), 0, "there is no row");
+        assert_eq!((held, found.as_slice().len()), (HELD, 1));
+        let (_, found) = memory.find(STRIPE, &19.into()).unwrap();
+        assert_eq!(found.as_slice().len(), 0, "there is no row");
         assert!(memory.find(STRIPE, &35.into()).is_none());
         assert_eq!(memory.keys(), 2);
         keep(&memory, STRIPE, HELD, 3);

@@ -2,6 +2,7 @@
 use crate::error::ReadError;
 use std::fmt;
 use std::sync::Arc;
+use std::sync::atomic::{AtomicBool, Ordering};
 use tokio_postgres::types::{FromSql, Type, WasNull, WrongType};
 
 /// The length that stands for NULL.
@@ -47,11 +48,19 @@ impl Column {
 /// # }
 /// ```
 #[derive(Clone)]
-pub struct Row {
+pub struct Row(Arc<Content>);
+
+struct Content {
     columns: Arc<[Column]>,
     /// Of each column the length, and the bytes if it is not [`NULL`].
-    values: Arc<[u8]>,
+    values: Box<[u8]>,
+    /// Of the rows of its key, if it is the only one.
+    mark: ReadMark,
 }
+
+/// Whether rows were read from memory.
+#[derive(Debug, Default)]
+pub(crate) struct ReadMark(AtomicBool);
 
 /// The bytes of a column, of whatever type.
 struct Bytes<'r>(&'r [u8]);
@@ -66,6 +75,24 @@ impl<'r> FromSql<'r> for Bytes<'r> {
 
     fn accepts(_: &Type) -> bool {
         true
+    }
+}
+
+impl ReadMark {
+    pub fn set(&self) {
+        // What is set is not written again: other processors read it.
+        if !self.is_set() {
+            self.0.store(true, Ordering::Relaxed);
+        }
+    }
+
+    pub fn is_set(&self) -> bool {
+        self.0.load(Ordering::Relaxed)
+    }
+
+    /// Whether it was set. It is not from now on.
+    pub fn take(&self) -> bool {
+        self.0.swap(false, Ordering::Relaxed)
     }
 }
 
@@ -87,13 +114,18 @@ impl Row {
             values.extend_from_slice(&length.to_ne_bytes());
             values.extend_from_slice(value.unwrap_or_default());
         }
-        Row { columns: Arc::clone(columns), values: values.into() }
+        let (columns, values) = (Arc::clone(columns), values.into());
+        Row(Arc::new(Content { columns, values, mark: ReadMark::default() }))
+    }
+
+    pub(crate) fn mark(&self) -> &ReadMark {
+        &self.0.mark
     }
 
     /// The columns, in the order of the table.
     #[must_use]
     pub fn columns(&self) -> &[Column] {
-        &self.columns
+        &self.0.columns
     }
 
     /// The bytes of the column at this place, from 0 on, in PostgreSQL's binary format; `None` if
@@ -104,8 +136,8 @@ impl Row {
     /// If there is no such column.
     #[must_use]
     pub fn bytes(&self, place: usize) -> Option<&[u8]> {
-        assert!(place < self.columns.len(), "a row of {} columns", self.columns.len());
-        let mut rest = &self.values[..];
+        let (columns, mut rest) = (self.columns(), self.packed());
+        assert!(place < columns.len(), "a row of {} columns", columns.len());
         for _ in 0..place {
             rest = next(rest).1;
         }
@@ -118,7 +150,7 @@ impl Row {
     ///
     /// [`ReadError::Column`] if there is no such column, or its type does not fit.
     pub fn get<'r, T: FromSql<'r>>(&'r self, name: &str) -> Result<T, ReadError> {
-        let place = self.columns.iter().position(|column| &*column.name == name);
+        let place = self.columns().iter().position(|column| &*column.name == name);
         self.get_at(place.ok_or_else(|| ReadError::no_column(name))?)
     }
 
@@ -132,7 +164,7 @@ impl Row {
     ///
     /// If there is no such column.
     pub fn get_at<'r, T: FromSql<'r>>(&'r self, place: usize) -> Result<T, ReadError> {
-        let column = &self.columns[place];
+        let column = &self.columns()[place];
         let value = if T::accepts(&column.sql_type) {
             T::from_sql_nullable(&column.sql_type, self.bytes(place))
         } else {
@@ -149,12 +181,12 @@ impl Row {
     /// [`Row::bytes`] returns them. The length of NULL is -1, and no bytes follow it.
     #[must_use]
     pub fn packed(&self) -> &[u8] {
-        &self.values
+        &self.0.values
     }
 
     /// About how many bytes of memory the row takes.
     pub(crate) fn size(&self) -> usize {
-        size_of::<Row>() + 2 * size_of::<usize>() + self.values.len()
+        size_of::<Row>() + size_of::<Content>() + self.packed().len()
     }
 }
 
@@ -170,14 +202,14 @@ fn next(values: &[u8]) -> (Option<&[u8]>, &[u8]) {
 impl PartialEq for Row {
     /// Whether the rows have the same columns with the same bytes.
     fn eq(&self, other: &Row) -> bool {
-        self.columns == other.columns && self.values == other.values
+        self.columns() == other.columns() && self.packed() == other.packed()
     }
 }
 
 impl fmt::Debug for Row {
     fn fmt(&self, f: &mut fmt::Formatter<'_>) -> fmt::Result {
-        let value = |place: usize| (self.columns[place].name(), self.bytes(place));
-        f.debug_map().entries((0..self.columns.len()).map(value)).finish()
+        let value = |place: usize| (self.columns()[place].name(), self.bytes(place));
+        f.debug_map().entries((0..self.columns().len()).map(value)).finish()
     }
 }
 

@@ -1,11 +1,11 @@
 //! What PostgreSQL is asked. Each name has its schema, so that nothing depends on a search path: what
 //! others make in a schema of it would be run with the rights of the reader.
+use crate::held::Few;
 use crate::key::{Key, KeyValue};
 use crate::row::Row;
 use crate::rows::Rows;
 use std::fmt::Write;
 use std::ops::RangeInclusive;
-use std::sync::Arc;
 use tokio_postgres::types::{ToSql, Type};
 
 /// Reports which stripes are quiet. They are asked for one by one only if not all of them are. The
@@ -100,7 +100,8 @@ pub(crate) struct TableSql {
 /// Which rows are selected.
 #[derive(Debug)]
 pub(crate) enum Selection<'k> {
-    /// Those of keys, each with the place of its key, from 1 on.
+    /// Those of keys. Each has the key, if this is one integer and there are several; otherwise the
+    /// place of its key, from 1 on.
     Keys(Vec<&'k Key>),
     /// Those of a range, in the order of their keys.
     Range(RangeInclusive<i64>),
@@ -156,6 +157,10 @@ impl KeyType {
     }
 }
 
+fn is_integer(key: &Key) -> bool {
+    matches!(key.values(), [KeyValue::Integer(_)])
+}
+
 fn integer(value: &KeyValue) -> i64 {
     if let KeyValue::Integer(number) = value { *number } else { 0 }
 }
@@ -174,12 +179,19 @@ impl TableSql {
         }
         let (of_one, of_several) = (of_one.join(" AND "), of_several.join(" AND "));
         let (arrays, first) = (arrays.join(", "), key.first().map_or("", |column| column));
-        TableSql {
-            one: format!("SELECT 1::bigint, t.* FROM {table} AS t WHERE {of_one}"),
-            several: format!(
+        let several = match types[..] {
+            [KeyType::Integer] => format!(
+                "SELECT t.{first}::bigint, t.* FROM {table} AS t
+                 WHERE t.{first} {EQUALS} ANY ($1::bigint[])"
+            ),
+            _ => format!(
                 "SELECT k.place, t.* FROM ROWS FROM ({arrays}) WITH ORDINALITY
                  AS k ({names}place) JOIN {table} AS t ON {of_several}"
             ),
+        };
+        TableSql {
+            one: format!("SELECT 1::bigint, t.* FROM {table} AS t WHERE {of_one}"),
+            several,
             range: format!(
                 "SELECT t.{first}::bigint, t.* FROM {table} AS t
                  WHERE t.{first} OPERATOR(pg_catalog.>=) $1::bigint
@@ -206,19 +218,27 @@ impl Selection<'_> {
     }
 
     /// What was selected, by the keys in their order.
-    pub fn by_key(&self, selected: Vec<(i64, Row)>) -> Vec<Arc<Rows>> {
-        let (first, count) = match self {
-            Selection::Keys(keys) => (1, keys.len()),
-            Selection::Range(keys) => (*keys.start(), keys.clone().count()),
-        };
-        let mut rows: Vec<Vec<Row>> = vec![Vec::new(); count];
+    pub fn by_key(&self, selected: Vec<(i64, Row)>) -> Few<Rows> {
+        let mut places: Vec<(i64, usize)> = self.numbers().into_iter().zip(0..).collect();
+        places.sort_unstable();
+        let mut rows: Vec<Vec<Row>> = vec![Vec::new(); places.len()];
         for (number, row) in selected {
-            let place = number.checked_sub(first).and_then(|place| usize::try_from(place).ok());
-            if let Some(of_key) = place.and_then(|place| rows.get_mut(place)) {
-                of_key.push(row);
-            }
+            let begin = places.partition_point(|(of_key, _)| *of_key < number);
+            let of_row = places[begin..].iter().take_while(|(of_key, _)| *of_key == number);
+            of_row.for_each(|(_, place)| rows[*place].push(row.clone()));
         }
         rows.into_iter().map(Rows::new).collect()
+    }
+
+    /// The number with which the rows of each key are selected.
+    fn numbers(&self) -> Vec<i64> {
+        match self {
+            Selection::Keys(keys) if keys.len() > 1 && keys.iter().all(|key| is_integer(key)) => {
+                keys.iter().flat_map(|key| key.values()).map(integer).collect()
+            }
+            Selection::Keys(keys) => (1..).take(keys.len()).collect(),
+            Selection::Range(keys) => keys.clone().collect(),
+        }
     }
 }
 
@@ -268,8 +288,10 @@ mod tests {
     /// Names of functions, types and operators in a statement that have no schema. `bigint` and such
     /// are words of SQL, and never names in a schema.
     fn unqualified(sql: &str) -> Vec<&str> {
-        const WORDS: [&str; 10] =
-            ["OPERATOR", "ARRAY", "FROM", "AS", "k", "part", "ELSE", "bigint", "SELECT", "LATERAL"];
+        const WORDS: [&str; 11] = [
+            "OPERATOR", "ARRAY", "ANY", "FROM", "AS", "k", "part", "ELSE", "bigint", "SELECT",
+            "LATERAL",
+        ];
         let is_of_name = |letter: char| letter.is_alphanumeric() || letter == '_' || letter == '.';
         let called = sql.match_indices('(').map(|(place, _)| {
             let before = sql[..place].trim_end();
@@ -292,9 +314,11 @@ mod tests {
 
     #[test]
     fn each_name_that_is_sent_has_its_schema() {
-        let TableSql { one, several, range, .. } = table();
         let own = [QUIET, QUIET_DEFINITION, MAY_CONNECT, SERVERS, FULL_NAME, CACHED];
-        for sql in own.into_iter().chain([&*one, &several, &range]) {
+        let numbered =
+            TableSql::new("public.n".to_string(), &["n".to_string()], vec![KeyType::Integer]);
+        let of_tables = [table(), numbered].map(|it| [it.one, it.several, it.range]).concat();
+        for sql in own.into_iter().chain(of_tables.iter().map(|sql| &**sql)) {
             assert_eq!(unqualified(sql), [""; 0], "{sql}");
         }
         for (sql, found) in [
@@ -312,11 +336,16 @@ mod tests {
     fn what_was_selected_is_found_by_its_key() {
         let [lamp, shade] = [row("lamp", None), row("shade", Some(3))];
         let counts = |selection: Selection<'_>, selected| -> Vec<usize> {
-            selection.by_key(selected).iter().map(|rows| rows.rows.len()).collect()
+            selection.by_key(selected).iter().map(|rows| rows.as_slice().len()).collect()
         };
-        let keys = [5, 6, 7].map(Key::from);
+        let keys = ["a", "b", "c"].map(Key::from);
         let selected = vec![(3, lamp.clone()), (1, shade.clone()), (3, shade.clone())];
         assert_eq!(counts(Selection::Keys(keys.iter().collect()), selected), [1, 0, 2]);
+        let keys = [7, 6, 5, 7].map(Key::from);
+        let selected = vec![(5, lamp.clone()), (7, shade.clone()), (8, shade.clone())];
+        assert_eq!(counts(Selection::Keys(keys.iter().collect()), selected), [1, 0, 1, 1]);
+        let selected = vec![(1, lamp.clone())];
+        assert_eq!(counts(Selection::Keys(vec![&keys[0]]), selected), [1]);
         let selected = vec![(i64::MAX - 1, lamp), (i64::MAX, shade)];
         assert_eq!(counts(Selection::Range(i64::MAX - 2..=i64::MAX), selected), [0, 1, 1]);
     }

@@ -2,7 +2,7 @@
 use crate::definition::{Definition, Holding, Wanted, not_cached};
 use crate::error::ReadError;
 use crate::fault_note::FaultNote;
-use crate::held::{self, Held, Missing};
+use crate::held::{self, Few, Held, Missing};
 use crate::key::Key;
 use crate::row::Row;
 use crate::rows::{Loaded, Rows};
@@ -11,6 +11,7 @@ use crate::sql::{KeyType, Selection};
 use crate::statistics::{Counters, Statistics};
 use std::fmt;
 use std::ops::{Bound, RangeBounds, RangeInclusive};
+use std::slice;
 use std::sync::mpsc::SyncSender;
 use std::sync::{Arc, Mutex, MutexGuard, PoisonError, RwLock};
 use std::time::Instant;
@@ -45,7 +46,7 @@ pub(crate) enum Errand {
 }
 
 /// Rows in memory, and what they were held by when they were loaded.
-type Found = Option<(Held, Arc<Rows>)>;
+type Found = Option<(Held, Rows)>;
 
 impl Table {
     pub(crate) fn open(
@@ -77,7 +78,8 @@ impl Table {
     /// [`ReadError::Key`] if it is not a key of this table; [`ReadError::SeveralRows`];
     /// [`ReadError::Database`].
     pub fn get(&self, key: impl Into<Key>) -> Result<Option<Row>, ReadError> {
-        Ok(self.get_many([key])?.pop().flatten())
+        let key = key.into();
+        one_of(&key, &self.read(slice::from_ref(&key), None)?)
     }
 
     /// The row of each key, if there is one, in the order of the keys. They are the rows of one
@@ -90,8 +92,8 @@ impl Table {
         &self,
         keys: impl IntoIterator<Item = K>,
     ) -> Result<Vec<Option<Row>>, ReadError> {
-        let keys: Vec<Key> = keys.into_iter().map(Into::into).collect();
-        one_of_each(&keys, self.read(&keys, None)?)
+        let keys: Few<Key> = keys.into_iter().map(Into::into).collect();
+        one_of_each(&keys, &self.read(&keys, None)?)
     }
 
     /// The same from memory only: `None` if not all of them are there. It sends nothing and waits
@@ -105,9 +107,9 @@ impl Table {
         &self,
         keys: impl IntoIterator<Item = K>,
     ) -> Result<Option<Vec<Option<Row>>>, ReadError> {
-        let keys: Vec<Key> = keys.into_iter().map(Into::into).collect();
+        let keys: Few<Key> = keys.into_iter().map(Into::into).collect();
         let found = self.read_memory(&keys)?;
-        found.map(|found| one_of_each(&keys, found)).transpose()
+        found.map(|found| one_of_each(&keys, &found)).transpose()
     }
 
     /// All rows of a key, for a table whose key columns are not unique, in no particular order.
@@ -195,12 +197,12 @@ impl Table {
         &self,
         keys: &[Key],
         range: Option<&RangeInclusive<i64>>,
-    ) -> Result<Vec<Arc<Rows>>, ReadError> {
+    ) -> Result<Few<Rows>, ReadError> {
         self.inner.with_definition(|definition| Read::new(self, definition, keys, range)?.rows())
     }
 
     /// The rows of these keys, if all of them are in memory.
-    fn read_memory(&self, keys: &[Key]) -> Result<Option<Vec<Arc<Rows>>>, ReadError> {
+    fn read_memory(&self, keys: &[Key]) -> Result<Option<Few<Rows>>, ReadError> {
         let definition = self.inner.definition();
         let read = Read::new(self, &definition, keys, None)?;
         let (found, missing) = read.find();
@@ -212,7 +214,7 @@ impl Table {
 struct Read<'r> {
     table: &'r Table,
     definition: &'r Definition,
-    wanted: Vec<Wanted<'r>>,
+    wanted: Few<Wanted<'r>>,
     range: Option<&'r RangeInclusive<i64>>,
 }
 
@@ -223,7 +225,7 @@ impl<'r> Read<'r> {
         keys: &'r [Key],
         range: Option<&'r RangeInclusive<i64>>,
     ) -> Result<Read<'r>, ReadError> {
-        let mut wanted = Vec::with_capacity(keys.len());
+        let mut wanted = Few::with_capacity(keys.len());
         for key in keys {
             wanted.push(definition.locate(key)?);
         }
@@ -231,14 +233,14 @@ impl<'r> Read<'r> {
     }
 
     /// What is in memory, and which rows are missing or may not be returned.
-    fn find(&self) -> (Vec<Found>, Missing) {
+    fn find(&self) -> (Few<Found>, Missing) {
         let find = |wanted: &Wanted<'_>| self.definition.memory.find(wanted.stripe, wanted.key);
         held::find(|| self.wanted.iter().map(find).collect(), |found| self.held(found))
     }
 
     /// From memory, if it has all rows. Otherwise the database selects those that are missing, if
     /// all of them are held, or all rows.
-    fn rows(&self) -> Result<Vec<Arc<Rows>>, ReadError> {
+    fn rows(&self) -> Result<Few<Rows>, ReadError> {
         let (found, missing) = self.find();
         if missing.places.is_empty() {
             return Ok(self.hits(found));
@@ -261,9 +263,9 @@ impl<'r> Read<'r> {
     /// Loads the rows that are missing and held. Returns all rows, if they are of one moment then.
     fn load(
         &self,
-        mut found: Vec<Found>,
+        mut found: Few<Found>,
         missing: &Missing,
-    ) -> Result<Option<Vec<Arc<Rows>>>, ReadError> {
+    ) -> Result<Option<Few<Rows>>, ReadError> {
         let (inner, places) = (&self.table.inner, &missing.places);
         let part: Vec<Wanted<'_>> = places.iter().map(|place| self.wanted[*place]).collect();
         let is_all = part.len() == self.wanted.len();
@@ -288,18 +290,18 @@ impl<'r> Read<'r> {
     }
 
     /// All rows, which are read from memory.
-    fn hits(&self, found: Vec<Found>) -> Vec<Arc<Rows>> {
+    fn hits(&self, found: Few<Found>) -> Few<Rows> {
         self.table.inner.counters.hits.add(found.len());
-        let mut hits = Vec::with_capacity(found.len());
+        let mut hits = Few::with_capacity(found.len());
         for (_, rows) in found.into_iter().flatten() {
-            rows.note_read();
+            rows.mark().set();
             hits.push(rows);
         }
         hits
     }
 
     /// By what each key is held now.
-    fn held(&self, found: &[Found]) -> Vec<Option<Held>> {
+    fn held(&self, found: &[Found]) -> Few<Option<Held>> {
         let then = |found: &Found| found.as_ref().map(|(then, _)| *then);
         self.definition.held(&self.wanted, found.iter().map(then))
     }
@@ -406,19 +408,23 @@ fn keys_of(range: &RangeInclusive<i64>) -> Option<Vec<Key>> {
 }
 
 /// The row of each key, if there is one.
-fn one_of_each(keys: &[Key], found: Vec<Arc<Rows>>) -> Result<Vec<Option<Row>>, ReadError> {
-    let row = |(rows, key): (Arc<Rows>, &Key)| match &rows.rows[..] {
-        [] => Ok(None),
-        [row] => Ok(Some(row.clone())),
-        _ => Err(ReadError::SeveralRows(key.clone())),
-    };
-    found.into_iter().zip(keys).map(row).collect()
+fn one_of_each(keys: &[Key], found: &[Rows]) -> Result<Vec<Option<Row>>, ReadError> {
+    keys.iter().zip(found).map(|(key, rows)| one_of(key, slice::from_ref(rows))).collect()
 }
 
-fn flat(found: &[Arc<Rows>]) -> Vec<Row> {
+/// The row of the key, if there is one among these.
+fn one_of(key: &Key, found: &[Rows]) -> Result<Option<Row>, ReadError> {
+    let mut rows = found.iter().flat_map(Rows::as_slice);
+    match (rows.next(), rows.next()) {
+        (row, None) => Ok(row.cloned()),
+        (_, Some(_)) => Err(ReadError::SeveralRows(key.clone())),
+    }
+}
+
+fn flat(found: &[Rows]) -> Vec<Row> {
     let mut rows = Vec::with_capacity(found.len());
     for of_key in found {
-        rows.extend_from_slice(&of_key.rows);
+        rows.extend_from_slice(of_key.as_slice());
     }
     rows
 }
