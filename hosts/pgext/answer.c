@@ -159,17 +159,6 @@ await_lock(krlc_client *client, KrlSpan span)
 	return false;
 }
 
-static uint32
-recall(krlc_client *client, KrlSpan span, TimestampTz end, krlc_error *error)
-{
-	uint32		code = hold(client, span, end, error);
-
-	/* If it fails, the next reader calls the keys back. */
-	if (code == KRLC_OK && !krl_keep_locks)
-		(void) !krlc_forget(client, span.lo, span.hi, ATTEMPT_MS, NULL);
-	return code;
-}
-
 /* Notes that this worker does these keys, unless another one does some of them. */
 static bool
 claim(KrlSpan span)
@@ -281,7 +270,7 @@ recall_task(krlc_client *client, krlc_error *error)
 	TimestampTz begun = GetCurrentTimestamp();
 	uint32		code;
 
-	code = recall(client, task.span, task.end, error);
+	code = hold(client, task.span, task.end, error);
 	pg_atomic_fetch_add_u64(&my_worker->spans, code == KRLC_OK);
 	pg_atomic_fetch_add_u64(&my_worker->microseconds, GetCurrentTimestamp() - begun);
 	return code;
@@ -326,6 +315,9 @@ take_back(krlc_client *client)
 		settle(KRL_PLACE(task.state), KRL_DONE);
 	else
 		settle(KRL_PLACE(task.state) + 1, KRL_WAITS);
+	/* The backend does not wait for this.  If it fails, the next reader calls the keys back. */
+	if (code == KRLC_OK)
+		(void) !krlc_forget(client, task.span.lo, task.span.hi, ATTEMPT_MS, NULL);
 	if (code == KRLC_TIMED_OUT)
 		is_stuck = await_lock(client, task.span);
 	end_claim();

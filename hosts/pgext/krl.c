@@ -42,7 +42,6 @@ int			krl_stripes;
 int			krl_timeout;
 int			krl_lease;
 int			krl_recall_limit;
-bool		krl_keep_locks;
 
 /* Where the lock files of the workers and the store are: next to the data directory by default. */
 char *
@@ -139,9 +138,6 @@ define_worker_settings(void)
 							NULL, &krl_first_client, KRLC_NUMBERS - KRL_MAX_WORKERS,
 							0, KRLC_NUMBERS - KRL_MAX_WORKERS,
 							PGC_POSTMASTER, 0, NULL, NULL, NULL);
-	DefineCustomBoolVariable("krl.keep_locks",
-							 "Whether workers keep the locks that no reader wants.",
-							 NULL, &krl_keep_locks, true, PGC_POSTMASTER, 0, NULL, NULL, NULL);
 	DefineCustomIntVariable("krl.stripes",
 							"The most stripes of all cached tables together, and one for each.",
 							"krl's servers need room for two rows more.",

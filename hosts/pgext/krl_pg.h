@@ -179,7 +179,6 @@ extern int	krl_stripes;
 extern int	krl_timeout;
 extern int	krl_lease;
 extern int	krl_recall_limit;
-extern bool krl_keep_locks;
 extern char *krl_directory_path(void);
 
 /* shared.c */
