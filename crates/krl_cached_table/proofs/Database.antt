@@ -1,7 +1,7 @@
 -- What happens to the database as a whole keeps a world sound.
 use Rattle.std.proofs.Common.{◌≡◌, ◌≢◌, ◌≤◌, ◌<◌, ℕ, suc, inl, inr, Bool, true, false, refl, sym, subst, true≢false, arith}
 use Rattle.krl_cached_table.specs.Worlds.{Setting, Recovering, Count, PlaceStage, Held, Counted, Unnoticed, Quiet, Load, World}
-use Rattle.krl_cached_table.specs.Steps.{crashed, IsCompatible}
+use Rattle.krl_cached_table.specs.Steps.{crashed}
 use Rattle.krl_cached_table.proofs.Sound.{HasFound, IsRead, IsTrusted, CountsAsKept, IsGuarded, PlaceFacts, LoadFacts, Sound}
 use Rattle.krl_cached_table.proofs.Frames.{Frame, all_framed, going}
 use Rattle.krl_cached_table.proofs.Transactions.{crash_goes, crash_proper, crash_not_found}
@@ -33,18 +33,19 @@ module _ (g : Setting) (w : World) where
   abbrev all_cut_off : ℕ → Load
   all_cut_off n = record (w.loads n) { found_open = false }
 
-  crashing : IsCompatible w.held → Frame g w without_running
-  crashing compatible = going g w without_running.transactions compatible (λ t. crash_goes g w (w.transactions t) (w.transactions t).stage refl)
+  crashing : Sound g w → Frame g w without_running
+  crashing s = going g w without_running.transactions s.compatible s.suspended (λ t. crash_goes g w (w.transactions t) (w.transactions t).stage refl)
 
   pub crash_kept : Sound g w → Sound g (record without_running { is_up = false; loads = all_cut_off })
   crash_kept s = record {
     compatible = s.compatible;
     nonce = s.nonce;
     proper = λ t. crash_proper g (w.transactions t) (w.transactions t).stage refl (s.proper t);
+    suspended = s.suspended;
     closed = s.closed;
     found = λ down t. crash_not_found (w.transactions t) (w.transactions t).stage refl;
     recovered = λ up. absurd (true≢false (sym up));
-    loads = λ n. cut_off g without_running all_cut_off (w.loads n) (all_framed g w without_running (crashing s.compatible) s n);
+    loads = λ n. cut_off g without_running all_cut_off (w.loads n) (all_framed g w without_running (crashing s) s n);
   }
 
 -- The workers draw another nonce. The counts are others after a crash only
@@ -83,6 +84,7 @@ module _ (g : Setting) (w : World) (up : Bool) (counts : ℕ → Count) (still_u
     compatible = s.compatible;
     nonce = let old : w.nonce ≤ w.start = s.nonce in omega arith;
     proper = s.proper;
+    suspended = s.suspended;
     closed = s.closed;
     found = found;
     recovered = recovered;
@@ -91,9 +93,9 @@ module _ (g : Setting) (w : World) (up : Bool) (counts : ℕ → Count) (still_u
 
 -- The cluster is suspended, and resumed
 
-module _ (g : Setting) (w : World) (closed suspended : Bool) (active : (p : ℕ) → IsRead g w p → w.is_suspended ≡ false → suspended ≡ false) where
+module _ (g : Setting) (w : World) (closed suspended was_suspended : Bool) (active : (p : ℕ) → IsRead g w p → w.was_suspended ≡ false → was_suspended ≡ false) where
   abbrev pub operated : World
-  operated = record w { is_closed = closed; is_suspended = suspended }
+  operated = record w { is_closed = closed; is_suspended = suspended; was_suspended = was_suspended }
 
   operating : Frame g w operated
   operating = record {
@@ -108,12 +110,13 @@ module _ (g : Setting) (w : World) (closed suspended : Bool) (active : (p : ℕ)
     rows = λ key k. refl;
   }
 
-  pub operated_kept : (suspended ≡ true → closed ≡ true) → Sound g w → Sound g operated
-  operated_kept first s = record {
+  pub operated_kept : (suspended ≡ true → was_suspended ≡ true) → (was_suspended ≡ true → closed ≡ true) → Sound g w → Sound g operated
+  operated_kept marked shut s = record {
     compatible = s.compatible;
     nonce = s.nonce;
     proper = s.proper;
-    closed = first;
+    suspended = marked;
+    closed = shut;
     found = s.found;
     recovered = s.recovered;
     loads = all_framed g w operated operating s;

@@ -12,10 +12,10 @@ pub record Frame (g : Setting) (w v : World) : Type 0 where
   pub tenure : (l : Load) (p : ℕ) → IsHome g w l → HasTenure v l p → HasTenure w l p
   pub start : w.start ≤ v.start
   pub up : w.is_up ≡ true → v.is_up ≡ true
-  pub active : (p : ℕ) → IsRead g w p → w.is_suspended ≡ false → v.is_suspended ≡ false
+  pub active : (p : ℕ) → IsRead g w p → w.was_suspended ≡ false → v.was_suspended ≡ false
   pub counted : (p recalls : ℕ) → w.is_up ≡ true → CountsAsKept (w.counts p) recalls → CountsAsKept (v.counts p) recalls
-  pub unnoticed : (p recalls : ℕ) → IsRead g w p → w.is_suspended ≡ false → w.is_up ≡ true → IsUnnoticed w p recalls → IsUnnoticed v p recalls
-  pub guarded : (p : ℕ) → IsRead g w p → IsRead g w g.cluster_mark → w.is_suspended ≡ false → IsGuarded w p → IsGuarded v p
+  pub unnoticed : (p recalls : ℕ) → IsRead g w p → w.was_suspended ≡ false → w.is_up ≡ true → IsUnnoticed w p recalls → IsUnnoticed v p recalls
+  pub guarded : (p : ℕ) → IsRead g w p → IsRead g w g.cluster_mark → w.was_suspended ≡ false → IsGuarded w p → IsGuarded v p
   pub rows : (key : ℕ) → ((p : ℕ) → IsPlaceOf g key p → IsGuarded w p) → row_after w.changes key ≡ row_after v.changes key
 
 read_by : (g : Setting) (w : World) (l : Load) (p : ℕ) → IsHome g w l → HasTenure w l p → IsRead g w p
@@ -24,7 +24,7 @@ read_by g w l p h t = (l.client, h.reader, h.holds p t)
 pub concluded : (g : Setting) (w : World) (l : Load) (p : ℕ) {A B : Type 0} → WhileHeld g w l p A → (A → B) → WhileHeld g w l p B
 concluded g w l p h step = (h.0, λ t m. ((h.1 t m).0, step (h.1 t m).1))
 
-while_held : (g : Setting) (w v : World) → Frame g w v → (l : Load) (p : ℕ) {A B : Type 0} → WhileHeld g w l p A → (IsRead g w p → IsRead g w g.cluster_mark → w.is_suspended ≡ false → A → B) → WhileHeld g v l p B
+while_held : (g : Setting) (w v : World) → Frame g w v → (l : Load) (p : ℕ) {A B : Type 0} → WhileHeld g w l p A → (IsRead g w p → IsRead g w g.cluster_mark → w.was_suspended ≡ false → A → B) → WhileHeld g v l p B
 while_held g w v f l p h step = (
   f.home l h.0,
   λ t m. let place : HasTenure w l p = f.tenure l p h.0 t in
@@ -83,14 +83,14 @@ pub record Goes (g : Setting) (w : World) (x y : Transaction) : Type 0 where
   pub skipped : (p : ℕ) → HasNotEnded y → y.skipped p ≡ true → (HasNotEnded x × (x.skipped p ≡ true)) ⊎ (HasFound x × ((w.counts p).is_kept ≡ false))
   pub found : HasFound y → HasFound x ⊎ (w.nonce ≡ w.start)
 
-module _ (g : Setting) (w : World) (f : ℕ → Transaction) (compatible : IsCompatible w.held) (goes : (t : ℕ) → Goes g w (w.transactions t) (f t)) where
+module _ (g : Setting) (w : World) (f : ℕ → Transaction) (compatible : IsCompatible w.held) (suspended : w.is_suspended ≡ true → w.was_suspended ≡ true) (goes : (t : ℕ) → Goes g w (w.transactions t) (f t)) where
   abbrev gone : World
   gone = record w { transactions = f }
 
-  nobody_took : (p : ℕ) → IsRead g w p → w.is_suspended ≡ false → NobodyTook w p → NobodyTook gone p
+  nobody_took : (p : ℕ) → IsRead g w p → w.was_suspended ≡ false → NobodyTook w p → NobodyTook gone p
   nobody_took p read active nobody t not_ended took =
       ⊎_elim (λ (a : HasNotEnded (w.transactions t) × ((w.transactions t).took_back p ≡ true)). nobody t a.0 a.1)
-      (⊎_elim (λ (x : IsExclusive g w p). excluded g w p compatible read x) (λ (s : w.is_suspended ≡ true). true≢false (sym s ∙ active)))
+      (⊎_elim (λ (x : IsExclusive g w p). excluded g w p compatible read x) (λ (s : w.is_suspended ≡ true). true≢false (sym (suspended s) ∙ active)))
       ((goes t).took p not_ended took)
 
   taken_since : (p recalls : ℕ) → CountsAsKept (w.counts p) recalls → (w.counts p).is_kept ≡ false → recalls < (w.counts p).recalls

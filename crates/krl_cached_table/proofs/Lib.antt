@@ -5,5 +5,6 @@ pub mod Loads
 pub mod Database
 pub mod Worlds
 pub mod Promised
+pub mod Runs
 pub mod Somewhere
 pub mod Locks

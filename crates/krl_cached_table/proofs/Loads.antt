@@ -40,7 +40,7 @@ load_kept g w l m s (finds_open is_open) h = record {
   answered = λ found. record {
     up = is_open.0;
     home = ⊎_elim (λ (a : IsHome g w l). a) (λ (b : l.nonce < w.start). let same : l.nonce ≡ w.start = is_open.2 in absurd (omega arith)) h.home;
-    active = λ p t. false_from_ne_true w.is_suspended (λ suspended. true≢false (sym (s.closed suspended) ∙ is_open.1));
+    active = λ p t. false_from_ne_true w.was_suspended (λ was. true≢false (sym (s.closed was) ∙ is_open.1));
   };
   places = λ p listed. tt;
   rows = h.rows;

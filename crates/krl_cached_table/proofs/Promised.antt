@@ -1,7 +1,7 @@
 -- What a read returns from memory is the table.
 use Rattle.std.proofs.Common.{◌≡◌, true, ◌<◌, ◌≤◌, ℕ, zero, suc, ◌+◌, Option, refl, sym, ◌∙◌, ap, arith}
 use Rattle.krl_cached_table.specs.Worlds.{Setting, row_after, Load, World}
-use Rattle.krl_cached_table.specs.Steps.{Step, locks_change, takes_cluster_mark, transacts, counts_recall, becomes_visible, crashes, recovers, starts, closes, suspends, resumes, opens, joins_again, loads, counts_as_kept, Steps, none, more}
+use Rattle.krl_cached_table.specs.Steps.{Step, locks_change, takes_cluster_mark, transacts, counts_recall, becomes_visible, crashes, recovers, starts, closes, suspends, resumes, suspends_again, opens, joins_again, loads, counts_as_kept, Steps, none, more}
 use Rattle.krl_cached_table.specs.Promises.{HasTenure, AnswersAreTable, with_row, range, RangesAreTable}
 use Rattle.krl_cached_table.proofs.Sound.{IsHome, RowFacts}
 use Rattle.krl_cached_table.proofs.Worlds.{sound, later_tenure}
@@ -20,6 +20,7 @@ step_rises g w v (starts down recovered) c p = omega arith
 step_rises g w v closes c p = omega arith
 step_rises g w v (suspends closed nobody) c p = omega arith
 step_rises g w v resumes c p = omega arith
+step_rises g w v (suspends_again was) c p = omega arith
 step_rises g w v (opens active) c p = omega arith
 step_rises g w v joins_again c p = omega arith
 step_rises g w v (loads n l step) c p = omega arith

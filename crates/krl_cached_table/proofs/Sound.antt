@@ -96,10 +96,11 @@ IsHome g w l =
       holds : (p : ℕ) → HasTenure w l p → Holds w l.client p;
     }
 
--- while it has the tenures of the place and of the cluster's mark, transactions do not commit without krl, and A holds
+-- while it has the tenures of the place and of the cluster's mark, the database was not suspended since it was closed,
+-- and A holds
 abbrev pub WhileHeld : Setting → World → Load → ℕ → Type 0 → Type 0
 WhileHeld g w l p A =
-    IsHome g w l × (HasTenure w l p → HasTenure w l g.cluster_mark → (w.is_suspended ≡ false) × A)
+    IsHome g w l × (HasTenure w l p → HasTenure w l g.cluster_mark → (w.was_suspended ≡ false) × A)
 
 abbrev pub PlaceFacts : Setting → World → Load → ℕ → PlaceStage → Type 0
 PlaceFacts g w l p Held = Unit {0}
@@ -115,13 +116,13 @@ RowFacts g w l key =
       row : ((p : ℕ) → IsPlaceOf g key p → HasTenure w l p) → l.rows key ≡ row_after w.changes key;
     }
 
--- krl.quiet answers only clients of the workers' krl, and while no transaction commits without it
+-- krl.quiet answers only clients of the workers' krl, and not after the database was suspended until it is opened
 abbrev pub IsAnswered : Setting → World → Load → Type 0
 IsAnswered g w l =
     record {
       up : w.is_up ≡ true;
       home : IsHome g w l;
-      active : (p : ℕ) → HasTenure w l p → w.is_suspended ≡ false;
+      active : (p : ℕ) → HasTenure w l p → w.was_suspended ≡ false;
     }
 
 pub record LoadFacts (g : Setting) (w : World) (l : Load) : Type 0 where
@@ -136,7 +137,8 @@ pub record Sound (g : Setting) (w : World) : Type 0 where
   pub compatible : IsCompatible w.held
   pub nonce : w.nonce ≤ w.start
   pub proper : (t : ℕ) → IsProper g (w.transactions t)
-  pub closed : w.is_suspended ≡ true → w.is_closed ≡ true
+  pub suspended : w.is_suspended ≡ true → w.was_suspended ≡ true
+  pub closed : w.was_suspended ≡ true → w.is_closed ≡ true
   pub found : w.is_up ≡ false → (t : ℕ) → HasFound (w.transactions t) → ⊥
   pub recovered : w.is_up ≡ true → (t : ℕ) → (w.transactions t).stage ≢ Recovering
   pub loads : (n : ℕ) → LoadFacts g w (w.loads n)

@@ -4,7 +4,7 @@ use Rattle.std.proofs.lemmas.Bool.{eqb-true, cond_both}
 use Rattle.krl_modes.specs.declared.part.KeyPart.{KeyPart}
 use Rattle.krl_modes.specs.Parts.{reads_key}
 use Rattle.krl_cached_table.specs.Worlds.{Setting, IsPlaceOf, Change, row_after, Stage, Running, Visible, Recovering, Ended, Transaction, Count, Held, Counted, Load, World, new_count, first}
-use Rattle.krl_cached_table.specs.Steps.{put, IsCompatible, Holds, IsExclusive, NotesLosses, IsSettled, IsChanged, shown, Step, locks_change, takes_cluster_mark, transacts, counts_recall, becomes_visible, crashes, recovers, starts, closes, suspends, resumes, opens, joins_again, loads, counts_as_kept, Reachable, begun, stepped}
+use Rattle.krl_cached_table.specs.Steps.{put, IsCompatible, Holds, IsExclusive, NotesLosses, IsSettled, IsChanged, shown, Step, locks_change, takes_cluster_mark, transacts, counts_recall, becomes_visible, crashes, recovers, starts, closes, suspends, resumes, suspends_again, opens, joins_again, loads, counts_as_kept, Reachable, begun, stepped}
 use Rattle.krl_cached_table.specs.Promises.{HasTenure}
 use Rattle.krl_cached_table.proofs.Sound.{put_all, put_at, put_here, IsFixed, IsProper, HasNotEnded, HasFound, CountsAsKept, IsGuarded, IsHome, PlaceFacts, LoadFacts, Sound, excluded}
 use Rattle.krl_cached_table.proofs.Frames.{Frame, load_framed, all_framed, staged, Goes, going}
@@ -59,6 +59,7 @@ module _ (g : Setting) (w : World) (held : ℕ → ℕ → KeyPart) (tenure : �
     compatible = compatible;
     nonce = s.nonce;
     proper = s.proper;
+    suspended = s.suspended;
     closed = s.closed;
     found = s.found;
     recovered = s.recovered;
@@ -89,6 +90,7 @@ module _ (g : Setting) (w : World) (exclusive : IsExclusive g w g.cluster_mark) 
     compatible = s.compatible;
     nonce = omega arith;
     proper = s.proper;
+    suspended = s.suspended;
     closed = s.closed;
     found = s.found;
     recovered = s.recovered;
@@ -105,10 +107,11 @@ transaction_kept g w t x goes proper not_found recovered s = record {
   compatible = s.compatible;
   nonce = s.nonce;
   proper = put_all (λ u y. IsProper g y) w.transactions t x proper s.proper;
+  suspended = s.suspended;
   closed = s.closed;
   found = λ down. put_all (λ u (y : Transaction). HasFound y → ⊥) w.transactions t x (not_found down) (s.found down);
   recovered = λ up. put_all (λ u (y : Transaction). y.stage ≢ Recovering) w.transactions t x (recovered up) (s.recovered up);
-  loads = all_framed g w (record w { transactions = put w.transactions t x }) (going g w (put w.transactions t x) s.compatible (all_go g w t x goes)) s;
+  loads = all_framed g w (record w { transactions = put w.transactions t x }) (going g w (put w.transactions t x) s.compatible s.suspended (all_go g w t x goes)) s;
 }
 
 -- A transaction becomes visible
@@ -136,7 +139,7 @@ module _ (g : Setting) (w : World) (t : ℕ) (stage : Stage) (decided : stage �
 
   showing : Frame g w (shown w t stage)
   showing =
-      let f : Frame g w (record w { transactions = put w.transactions t y }) = going g w (put w.transactions t y) s.compatible (all_go g w t y (goes_to g w x stage not_ended decided)) in
+      let f : Frame g w (record w { transactions = put w.transactions t y }) = going g w (put w.transactions t y) s.compatible s.suspended (all_go g w t y (goes_to g w x stage not_ended decided)) in
       record {
         home = f.home;
         tenure = f.tenure;
@@ -154,6 +157,7 @@ module _ (g : Setting) (w : World) (t : ℕ) (stage : Stage) (decided : stage �
     compatible = s.compatible;
     nonce = s.nonce;
     proper = put_all (λ u z. IsProper g z) w.transactions t y (proper_unfixed g x stage unfixed (s.proper t)) s.proper;
+    suspended = s.suspended;
     closed = s.closed;
     found = λ down. put_all (λ u (z : Transaction). HasFound z → ⊥) w.transactions t y (λ f. decided f.0) (s.found down);
     recovered = λ up. put_all (λ u (z : Transaction). z.stage ≢ Recovering) w.transactions t y recovered (s.recovered up);
@@ -207,6 +211,7 @@ module _ (g : Setting) (w : World) (t p : ℕ) (run : (w.transactions t).stage �
     compatible = s.compatible;
     nonce = s.nonce;
     proper = s.proper;
+    suspended = s.suspended;
     closed = s.closed;
     found = s.found;
     recovered = s.recovered;
@@ -268,6 +273,7 @@ module _ (g : Setting) (w : World) (n p : ℕ) (held : (w.loads n).stage p ≡ H
     compatible = s.compatible;
     nonce = s.nonce;
     proper = s.proper;
+    suspended = s.suspended;
     closed = s.closed;
     found = s.found;
     recovered = s.recovered;
@@ -300,6 +306,7 @@ module _ (g : Setting) (w : World) (n : ℕ) (l : Load) where
     compatible = s.compatible;
     nonce = s.nonce;
     proper = s.proper;
+    suspended = s.suspended;
     closed = s.closed;
     found = s.found;
     recovered = s.recovered;
@@ -321,10 +328,11 @@ step_kept g w v (recovers t recovering) s =
     shown_kept g w t Ended (λ e. cc) s (recovering_not_ended (w.transactions t).stage recovering) (subst IsFixed (sym recovering) tt) (λ never. never) (λ e. cc)
 step_kept g w v (starts down recovered) s = renewed_kept g w true (λ p. new_count) (λ up. refl) (λ up. absurd (true≢false (sym up ∙ down))) (λ t f. absurd (s.found down t f)) s (λ down. absurd (true≢false down)) (λ up. recovered)
 step_kept g w v joins_again s = renewed_kept g w w.is_up w.counts (λ up. up) (λ up. refl) (λ t f. refl) s s.found s.recovered
-step_kept g w v closes s = operated_kept g w true w.is_suspended (λ p read a. a) (λ e. refl) s
-step_kept g w v (suspends closed nobody) s = operated_kept g w w.is_closed true (λ p read a. absurd (nobody read.0 p read.1 read.2)) (λ e. closed) s
-step_kept g w v resumes s = operated_kept g w w.is_closed false (λ p read a. refl) (λ e. absurd (true≢false (sym e))) s
-step_kept g w v (opens active) s = operated_kept g w false w.is_suspended (λ p read a. a) (λ e. absurd (true≢false (sym e ∙ active))) s
+step_kept g w v closes s = operated_kept g w true w.is_suspended w.was_suspended (λ p read a. a) s.suspended (λ e. refl) s
+step_kept g w v (suspends closed nobody) s = operated_kept g w w.is_closed true true (λ p read a. absurd (nobody read.0 p read.1 read.2)) (λ e. refl) (λ e. closed) s
+step_kept g w v resumes s = operated_kept g w w.is_closed false w.was_suspended (λ p read a. a) (λ e. absurd (true≢false (sym e))) s.closed s
+step_kept g w v (suspends_again was) s = operated_kept g w w.is_closed true w.was_suspended (λ p read a. a) (λ e. was) s.closed s
+step_kept g w v (opens active) s = operated_kept g w false w.is_suspended false (λ p read a. refl) (λ e. absurd (true≢false (sym e ∙ active))) (λ e. absurd (true≢false (sym e))) s
 step_kept g w v (loads n l step) s = with_load_kept g w n l s (load_kept g w (w.loads n) l s step (s.loads n))
 step_kept g w v (counts_as_kept n p held found) s = count_kept g w n p held found s
 
@@ -335,6 +343,7 @@ sound g w (begun changes) = record {
   compatible = λ c d p differ. refl;
   nonce = omega arith;
   proper = λ t. new_proper g;
+  suspended = λ e. e;
   closed = λ e. absurd (true≢false (sym e));
   found = λ down. absurd (true≢false down);
   recovered = λ up t e. cc;

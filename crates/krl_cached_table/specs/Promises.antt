@@ -1,7 +1,7 @@
 -- What holds of each reachable world: what a reader answers from memory is the table.
 use Rattle.std.specs.Prelude.{◌≡◌, ℕ, zero, suc, ◌+◌, ◌≤◌, ◌<◌, true, false, Option, Some, None, List, [], ◌∷◌}
 use Rattle.krl_cached_table.specs.Worlds.{Setting, IsPlaceOf, row_after, Load, World}
-use Rattle.krl_cached_table.specs.Steps.{Steps, Reachable}
+use Rattle.krl_cached_table.specs.Steps.{Holds, Step, Steps, Reachable}
 
 -- the client's tenure of the place is the one that it took before it loaded the rows
 abbrev pub HasTenure : World → Load → ℕ → Type 0
@@ -40,7 +40,9 @@ RangesAreTable =
 -- The laws are not empty. Somewhere a read finds in memory that a key has no row. Later, after a transaction has taken
 -- the stripe back, it finds the row that this transaction made. It still does after another transaction has skipped a
 -- stripe and the mark of another table, by which nobody had kept a row. If the database crashes before all this, then a
--- transaction after its next start skips the stripe, and a later read finds its row
+-- transaction after its next start skips the stripe, and a later read finds its row. If it is suspended and resumed
+-- instead, and suspended again while a reader holds the stripe, then a transaction commits without a worker, and a read
+-- after the database was opened finds its row
 pub record AnswersSomewhere : Type 0 where
   pub setting : Setting
   pub before : World
@@ -64,3 +66,14 @@ pub record AnswersSomewhere : Type 0 where
   pub changed_since : Steps setting down restarted
   pub skipped_since : (restarted.transactions 0).skipped (setting.stripe_of 3) ≡ true
   pub row_since : Answers setting restarted 3 (Some 5)
+  pub suspended : World
+  pub went_on : Steps setting before suspended
+  pub resumed : World
+  pub joined : Steps setting suspended resumed
+  pub is_read : Holds resumed 1 (setting.stripe_of 3)
+  pub suspended_again : World
+  pub fell_back : Step setting resumed suspended_again
+  pub without_krl : suspended_again.is_suspended ≡ true
+  pub opened : World
+  pub changed_without_krl : Steps setting suspended_again opened
+  pub row_made_without_krl : Answers setting opened 3 (Some 5)

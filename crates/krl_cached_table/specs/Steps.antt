@@ -160,11 +160,13 @@ pub data Step (g : Setting) (w : World) : World → Type 0 where
   starts : w.is_up ≡ false →
       ((t : ℕ) → (w.transactions t).stage ≢ Recovering) →
       Step g w (record w { is_up = true; start = suc w.start; counts = λ p. new_count })
-  -- the database is suspended, after it was closed to krl.quiet, and resumed
+  -- the database is suspended, after it was closed to krl.quiet, and resumed. Until it is opened it may be suspended
+  -- again: nobody has kept anything since
   closes : Step g w (record w { is_closed = true })
-  suspends : w.is_closed ≡ true → NobodyReads g w → Step g w (record w { is_suspended = true })
+  suspends : w.is_closed ≡ true → NobodyReads g w → Step g w (record w { is_suspended = true; was_suspended = true })
   resumes : Step g w (record w { is_suspended = false })
-  opens : w.is_suspended ≡ false → Step g w (record w { is_closed = false })
+  suspends_again : w.was_suspended ≡ true → Step g w (record w { is_suspended = true })
+  opens : w.is_suspended ≡ false → Step g w (record w { is_closed = false; was_suspended = false })
   joins_again : Step g w (record w { start = suc w.start })
   -- readers
   loads : (n : ℕ) (l : Load) → LoadStep g w (w.loads n) l → Step g w (record w { loads = put w.loads n l })

@@ -84,6 +84,7 @@ pub record World : Type 0 where
   pub start : ℕ  -- how often it started, or its workers joined krl again: it stands for the nonce that they drew then
   pub is_closed : Bool  -- krl.quiet returns false
   pub is_suspended : Bool  -- transactions commit without krl
+  pub was_suspended : Bool  -- and krl.quiet has returned false ever since
   pub changes : List Change  -- of the transactions that became visible, the last first
   pub transactions : ℕ → Transaction
   pub counts : ℕ → Count  -- by place
@@ -129,6 +130,7 @@ first changes = record {
   start = 1;
   is_closed = false;
   is_suspended = false;
+  was_suspended = false;
   changes = changes;
   transactions = λ t. new_transaction;
   counts = λ p. new_count;

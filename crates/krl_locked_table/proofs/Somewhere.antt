@@ -8,7 +8,7 @@ use Rattle.krl_modes.specs.declared.part.KeyPart.TheVariants as part
 use Rattle.krl_cached_table.specs.Worlds.{row_after, Committed, Visible, Ended}
 use Rattle.krl_cached_table.specs.Steps.{put, IsCompatible}
 use Rattle.krl_cached_table.proofs.Sound.{put_all}
-use Rattle.krl_cached_table.proofs.Somewhere.{owned, compatible}
+use Rattle.krl_cached_table.proofs.Runs.{owned, compatible}
 use Rattle.krl_locked_table.specs.Worlds.{Setting, IsPlaceOf, Transaction, World, new_transaction, new_load, first}
 use Rattle.krl_locked_table.specs.Steps.{HasLock, AreSettled, changes_row, shares_lock, sees_open, begins_to_wait, has_waited, commits, ends, begins, finds_nonce, finds_locked, takes_rows, shown, without_agent, Step, time_passes, locks_change, becomes_alive, draws_nonce, writes_nonce, opens, takes_lock, announces, recalls, gives_up_lock, agent_ends, transacts, becomes_visible, loads, Steps, none, more, Reachable, begun, stepped}
 use Rattle.krl_locked_table.specs.Promises.{AnswersSomewhere}
