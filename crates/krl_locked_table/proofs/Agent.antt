@@ -1,5 +1,5 @@
 -- What the agent does keeps a world sound, and so does its end.
-use Rattle.std.proofs.Common.{◌≡◌, ◌<◌, ◌≤◌, ◌+◌, ℕ, suc, ◌⊎◌, inl, inr, Bool, true, false, Some, refl, sym, subst, ⊎_elim, ◌∙◌, true≢false, eqb, arith}
+use Rattle.std.proofs.Common.{◌≡◌, ◌<◌, ◌≤◌, ◌+◌, ℕ, suc, ◌⊎◌, inl, inr, Bool, true, false, refl, sym, subst, ⊎_elim, ◌∙◌, true≢false, eqb, arith}
 use Rattle.std.proofs.lemmas.Bool.{cond_both, cond-false}
 use Rattle.krl_cached_table.specs.Steps.{put}
 use Rattle.krl_cached_table.proofs.Sound.{put_at}
@@ -190,14 +190,17 @@ module _ (g : Setting) (w : World) (s : Sound g w) where
       s.exclusive t p locks (locked (w.transactions t).stage (s.recovered (s.session.up (s.session.locked p locks)) t) n, shares)
 
   lost_now : (l : Load) (p : ℕ) → IsPast w l → w.locks p ≡ true → IsGuarded g (without_agent w) l p
-  lost_now l p past locks = inr (w.now, record {
-    past = omega arith;
-    unanswered = record { answered = past.answered; asked = λ found. inl past.asked; drawn = λ d. absurd (true≢false (sym d)) };
-    alive = λ a. absurd (true≢false (sym a));
-    opened = λ o. absurd (true≢false (sym o));
-    waits = λ t since n e. absurd (nobody_shares t p locks n ((s.proper t).waited p since e));
-    settled = λ t n e. absurd (nobody_shares t p locks n ((s.proper t).settled p e));
-  })
+  lost_now l p past locks = inr (
+    w.now,
+    record {
+      past = omega arith;
+      unanswered = record { answered = past.answered; asked = λ found. inl past.asked; drawn = λ d. absurd (true≢false (sym d)) };
+      alive = λ a. absurd (true≢false (sym a));
+      opened = λ o. absurd (true≢false (sym o));
+      waits = λ t since n e. absurd (nobody_shares t p locks n ((s.proper t).waited p since e));
+      settled = λ t n e. absurd (nobody_shares t p locks n ((s.proper t).settled p e));
+    },
+  )
 
   pub ended_kept : Sound g (without_agent w)
   ended_kept = act_kept g w false w.alive_since false w.nonce w.mark false (λ p. false) (λ p. false) (λ p. false) (record {

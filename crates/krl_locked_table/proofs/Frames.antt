@@ -1,5 +1,5 @@
 -- What a step leaves of the facts on loads.
-use Rattle.std.proofs.Common.{◌≡◌, ◌<◌, ◌≤◌, ◌+◌, ℕ, ◌⊎◌, inl, inr, true, false, Some, refl, sym, ◌∙◌, ⊎_elim, arith}
+use Rattle.std.proofs.Common.{◌≡◌, ◌<◌, ◌≤◌, ◌+◌, ℕ, ◌⊎◌, inl, inr, true, false, Some, ◌∙◌, ⊎_elim, arith}
 use Rattle.krl_cached_table.specs.Worlds.{row_after}
 use Rattle.krl_locked_table.specs.Worlds.{Setting, IsPlaceOf, Transaction, Load, World}
 use Rattle.krl_locked_table.specs.Steps.{HasLock}
@@ -61,7 +61,7 @@ module _ (g : Setting) (w v : World) (f : Frame g w v) (l : Load) (before : IsPa
             (⊎_elim
             (λ (o : w.is_open ≡ true). let b : end + g.patience ≤ w.now = h.opened o in omega arith)
             (λ (a : (since : ℕ) × HasNotEnded (w.transactions t) × ((w.transactions t).waits p ≡ Some since) × (since + g.patience ≤ w.now)).
-                let b : end ≤ a.0 = h.waits t a.0 a.1 a.2 in let c : a.0 + g.patience ≤ w.now = a.3 in omega arith))
+            let b : end ≤ a.0 = h.waits t a.0 a.1 a.2 in let c : a.0 + g.patience ≤ w.now = a.3 in omega arith))
             ((f.transactions t).settled p n e);
       }
 
@@ -87,8 +87,8 @@ module _ (g : Setting) (w v : World) (f : Frame g w v) (l : Load) (before : IsPa
     row = λ t. let had : (p : ℕ) → IsPlaceOf g key p → HasTenure w l p = λ p i. f.tenure l p (h.guarded p i).0 (t p i) in
         ⊎_elim
         (λ (row : l.rows key ≡ row_after w.changes key). ⊎_elim
-            (λ (same : row_after w.changes key ≡ row_after v.changes key). inl (row ∙ same)) (λ (over : IsOver g w l). inr (over_later over))
-            (f.rows l key (λ p i. (h.guarded p i).1 (had p i))))
+        (λ (same : row_after w.changes key ≡ row_after v.changes key). inl (row ∙ same)) (λ (over : IsOver g w l). inr (over_later over))
+        (f.rows l key (λ p i. (h.guarded p i).1 (had p i))))
         (λ (over : IsOver g w l). inr (over_later over)) (h.row had);
   }
 

@@ -1,12 +1,11 @@
 -- A step of a load keeps its facts.
-use Rattle.std.proofs.Common.{◌≡◌, ◌∙◌, ◌≤◌, ◌<◌, ◌+◌, ℕ, ◌⊎◌, inl, inr, Bool, true, false, refl, sym, subst, ⊎_elim, true≢false, arith}
+use Rattle.std.proofs.Common.{◌≡◌, ◌∙◌, ◌≤◌, ◌<◌, ℕ, ◌⊎◌, inl, inr, Bool, true, false, refl, sym, subst, ⊎_elim, true≢false, arith}
 use Rattle.std.proofs.lemmas.Bool.{false_from_ne_true}
 use Rattle.krl_cached_table.specs.Worlds.{row_after}
 use Rattle.krl_cached_table.proofs.Transactions.{put_true}
-use Rattle.krl_locked_table.specs.Worlds.{Setting, IsPlaceOf, Load, World, new_load}
+use Rattle.krl_locked_table.specs.Worlds.{Setting, Load, World, new_load}
 use Rattle.krl_locked_table.specs.Steps.{LoadStep, begins, begins_elsewhere, finds_nonce, finds_locked, takes_rows, asks, finds_open, is_answered}
-use Rattle.krl_locked_table.specs.Promises.{HasTenure}
-use Rattle.krl_locked_table.proofs.Sound.{IsUnansweredAfter, IsLost, IsGuarded, IsOver, IsHome, IsGuardedWhileHeld, RowFacts, IsPast, LoadFacts, Sound}
+use Rattle.krl_locked_table.proofs.Sound.{IsUnansweredAfter, IsGuarded, IsOver, IsHome, IsGuardedWhileHeld, LoadFacts, Sound}
 
 pub new_load_kept : (g : Setting) (w : World) (client : ℕ) (places : ℕ → Bool) (tenures : ℕ → ℕ) (nonce : ℕ) → nonce ≤ w.nonce → IsHome g w (new_load client places tenures nonce w.now) ⊎ (nonce < w.nonce) → LoadFacts g w (new_load client places tenures nonce w.now)
 new_load_kept g w client places tenures nonce known home = record {
@@ -24,14 +23,17 @@ module _ (g : Setting) (w : World) (l : Load) (answered asked : ℕ) (found_open
 
   still_guarded : (p : ℕ) → IsGuarded g w l p → IsGuarded g w later p
   still_guarded p (inl a) = inl a
-  still_guarded p (inr b) = inr (b.0, record {
-    past = b.1.past;
-    unanswered = unanswered b.0 b.1.unanswered;
-    alive = b.1.alive;
-    opened = b.1.opened;
-    waits = b.1.waits;
-    settled = b.1.settled;
-  })
+  still_guarded p (inr b) = inr (
+    b.0,
+    record {
+      past = b.1.past;
+      unanswered = unanswered b.0 b.1.unanswered;
+      alive = b.1.alive;
+      opened = b.1.opened;
+      waits = b.1.waits;
+      settled = b.1.settled;
+    },
+  )
 
   pub question_kept : answered ≤ w.now → asked ≤ w.now → LoadFacts g w l → LoadFacts g w later
   question_kept is_past began h = record {
@@ -78,8 +80,8 @@ load_kept g w l m s (finds_open opened) h =
     question_kept g w l l.answered l.asked true (λ end u. record { answered = u.answered; asked = λ found. inr (u.drawn (s.session.opened opened)); drawn = u.drawn }) h.past.answered h.past.asked h
 load_kept g w l m s (is_answered found same) h =
     question_kept g w l l.asked l.asked l.found_open
-        (λ end u. record {
-          answered = ⊎_elim (λ (a : l.asked ≤ end). a) (λ (b : l.nonce < w.nonce). absurd (omega arith)) (u.asked found);
-          asked = u.asked;
-          drawn = u.drawn;
-        }) h.past.asked h.past.asked h
+    (λ end u. record {
+      answered = ⊎_elim (λ (a : l.asked ≤ end). a) (λ (b : l.nonce < w.nonce). absurd (omega arith)) (u.asked found);
+      asked = u.asked;
+      drawn = u.drawn;
+    }) h.past.asked h.past.asked h

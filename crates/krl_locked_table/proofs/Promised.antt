@@ -1,5 +1,5 @@
 -- What a read returns from memory is the table.
-use Rattle.std.proofs.Common.{◌≡◌, ◌<◌, ◌≤◌, ℕ, ◌+◌, ◌⊎◌, true, Option, sym, ◌∙◌, ⊎_elim, arith}
+use Rattle.std.proofs.Common.{◌≡◌, ◌<◌, ◌≤◌, ℕ, ◌+◌, true, sym, ◌∙◌, ⊎_elim, arith}
 use Rattle.krl_cached_table.specs.Worlds.{row_after}
 use Rattle.krl_cached_table.proofs.Promised.{range_same}
 use Rattle.krl_locked_table.specs.Worlds.{Setting, Load, World}
@@ -64,7 +64,7 @@ answers_are_table g w key row reachable a =
     let l : Load = w.loads a.load in
     let h : RowFacts g w l key = ((sound g w reachable).loads a.load).rows a.kept key (λ p i. listed (a.tenures p i).0 p (a.tenures p i).2) in
     ⊎_elim (λ (same : l.rows key ≡ row_after w.changes key). sym a.taken ∙ same) (λ (over : IsOver g w l). absurd (not_over g w a.clock.0 l a.clock.1 a.clock.2 over))
-        (h.row (λ p i. had_tenure g w (a.tenures p i).0 l p (a.tenures p i).1 (h.guarded p i).0 (a.tenures p i).2))
+    (h.row (λ p i. had_tenure g w (a.tenures p i).0 l p (a.tenures p i).1 (h.guarded p i).0 (a.tenures p i).2))
   where
     listed : (v : World) (p : ℕ) → HasTenure v (w.loads a.load) p → (w.loads a.load).places p ≡ true
     listed v p t = t.0

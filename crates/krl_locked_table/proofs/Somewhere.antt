@@ -1,12 +1,12 @@
 -- A run in which a reader, client 1, answers from memory. The agent is client 0. Each key n is of the stripe 10 + n, and
 -- all keys are of the table 5.
-use Rattle.std.proofs.Common.{◌≡◌, ◌≢◌, ◌⊎◌, ℕ, suc, ◌+◌, Bool, inl, inr, true, false, Some, [], ◌∷◌, refl, sym, ◌∙◌, ap, subst, ⊎_elim, true≢false, arith, if◌then◌else◌, eqb}
-use Rattle.std.proofs.lemmas.Bool.{eqb-true, ne_eqb, cases_eq, cond-false, cond_both}
-use Rattle.krl_modes.specs.Parts.{keys_compatible, reads_key}
+use Rattle.std.proofs.Common.{◌≡◌, ◌≢◌, ◌⊎◌, ℕ, suc, ◌+◌, Bool, inl, inr, true, false, Some, [], ◌∷◌, refl, sym, ap, subst, ⊎_elim, true≢false, arith, eqb}
+use Rattle.std.proofs.lemmas.Bool.{cases_eq}
+use Rattle.krl_modes.specs.Parts.{reads_key}
 use Rattle.krl_modes.specs.declared.part.KeyPart.{KeyPart}
 use Rattle.krl_modes.specs.declared.part.KeyPart.TheVariants as part
 use Rattle.krl_cached_table.specs.Worlds.{row_after, Committed, Visible, Ended}
-use Rattle.krl_cached_table.specs.Steps.{put, IsCompatible}
+use Rattle.krl_cached_table.specs.Steps.{put}
 use Rattle.krl_cached_table.proofs.Sound.{put_all}
 use Rattle.krl_cached_table.proofs.Runs.{owned, compatible}
 use Rattle.krl_locked_table.specs.Worlds.{Setting, IsPlaceOf, Transaction, World, new_transaction, new_load, first}
@@ -288,6 +288,7 @@ nobody_after = put_all NoLock w9.transactions 1 (record y4 { stage = Visible }) 
   where
     NoLock : ℕ → Transaction → Type 0
     NoLock t x = HasNoLock x
+
     elsewhere : HasNoLock y2
     elsewhere p (inl e) h = true≢false (sym (subst (λ q. y2.shares q ≡ true) e h.1))
     elsewhere p (inr e) h = true≢false (sym (subst (λ q. y2.shares q ≡ true) e h.1))
@@ -300,6 +301,7 @@ nobody_at_last t = ⊎_elim
   where
     IsAsBefore : ℕ → Transaction → Type 0
     IsAsBefore t x = t ≢ 2 → x ≡ last.transactions t
+
     unchanged : (t : ℕ) → t ≢ 2 → v7.transactions t ≡ last.transactions t
     unchanged =
         put_all IsAsBefore v6.transactions 2 (record z5 { stage = Ended }) (λ other. absurd (other refl)) (put_all IsAsBefore v5.transactions 2 (record z5 { stage = Visible }) (λ other. absurd (other refl))

@@ -1,8 +1,6 @@
 -- What holds of each reachable world.
 use Rattle.std.proofs.Common.{◌≡◌, ◌≢◌, ◌<◌, ◌≤◌, ◌+◌, ℕ, ◌⊎◌, true, false, Some, sym, ◌∙◌, ap, subst, true≢false}
-use Rattle.krl_modes.specs.Parts.{keys_compatible, reads_key}
-use Rattle.krl_modes.specs.declared.part.KeyPart.{KeyPart}
-use Rattle.krl_modes.specs.declared.part.KeyPart.TheVariants as part
+use Rattle.krl_modes.specs.Parts.{keys_compatible}
 use Rattle.krl_cached_table.specs.Worlds.{row_after, Recovering, Ended}
 use Rattle.krl_cached_table.specs.Steps.{IsCompatible}
 use Rattle.krl_cached_table.proofs.Sound.{IsFixed, reads_no_X}

@@ -1,12 +1,12 @@
 -- A step of a transaction goes on from what it had, and keeps it proper; so does a crash of the database.
-use Rattle.std.proofs.Common.{◌≡◌, ◌≢◌, ◌≤◌, ◌+◌, ℕ, ◌⊎◌, inl, inr, Bool, true, false, Option, Some, None, refl, sym, subst, ⊎_elim, ◌∙◌, true≢false, eqb}
+use Rattle.std.proofs.Common.{◌≡◌, ◌≢◌, ℕ, ◌⊎◌, inl, inr, true, false, Option, Some, refl, sym, subst, ⊎_elim, true≢false, eqb}
 use Rattle.std.proofs.lemmas.Bool.{eqb-true, cond_both}
 use Rattle.krl_cached_table.specs.Worlds.{Stage, Running, Prepared, Committed, Visible, Recovering, Ended}
 use Rattle.krl_cached_table.specs.Steps.{put, has_locks}
 use Rattle.krl_cached_table.proofs.Sound.{IsFixed}
-use Rattle.krl_cached_table.proofs.Transactions.{put_true, put_keeps, running_not_ended, prepared_not_ended, committed_not_ended, visible_not_ended}
+use Rattle.krl_cached_table.proofs.Transactions.{put_true, put_keeps, running_not_ended, prepared_not_ended, committed_not_ended}
 use Rattle.krl_locked_table.specs.Worlds.{Setting, Transaction, World, new_transaction}
-use Rattle.krl_locked_table.specs.Steps.{HasLock, TransactionStep, begins_another, changes_row, shares_lock, sees_open, begins_to_wait, has_waited, prepares, commits, commits_prepared, rolls_back, ends, crashed}
+use Rattle.krl_locked_table.specs.Steps.{TransactionStep, begins_another, changes_row, shares_lock, sees_open, begins_to_wait, has_waited, prepares, commits, commits_prepared, rolls_back, ends, crashed}
 use Rattle.krl_locked_table.proofs.Sound.{IsProper, HasNotEnded}
 use Rattle.krl_locked_table.proofs.Frames.{Goes, goes_same}
 

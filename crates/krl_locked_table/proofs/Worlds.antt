@@ -1,9 +1,9 @@
 -- Each step keeps a world sound.
-use Rattle.std.proofs.Common.{◌≡◌, ◌≢◌, ◌∙◌, ◌<◌, ◌≤◌, ◌+◌, ℕ, suc, ◌⊎◌, inl, inr, true, false, List, [], ◌∷◌, ◌++◌, refl, sym, subst, ⊎_elim, true≢false, eqb, arith}
+use Rattle.std.proofs.Common.{◌≡◌, ◌≢◌, ◌∙◌, ◌<◌, ◌≤◌, ℕ, suc, ◌⊎◌, inl, inr, true, false, List, [], ◌∷◌, ◌++◌, refl, sym, subst, ⊎_elim, true≢false, eqb, arith}
 use Rattle.std.proofs.lemmas.Bool.{eqb-true, cond_both}
 use Rattle.krl_modes.specs.declared.part.KeyPart.{KeyPart}
 use Rattle.krl_modes.specs.Parts.{reads_key}
-use Rattle.krl_cached_table.specs.Worlds.{Change, row_after, Stage, Committed, Visible, Recovering, Ended}
+use Rattle.krl_cached_table.specs.Worlds.{Change, row_after, Stage, Visible, Recovering, Ended}
 use Rattle.krl_cached_table.specs.Steps.{put, IsCompatible, has_locks, IsChanged}
 use Rattle.krl_cached_table.proofs.Sound.{put_all, IsFixed}
 use Rattle.krl_cached_table.proofs.Transactions.{committed_not_ended, recovering_not_ended}
@@ -13,7 +13,7 @@ use Rattle.krl_locked_table.specs.Promises.{HasTenure}
 use Rattle.krl_locked_table.proofs.Sound.{IsProper, HasNotEnded, IsLost, IsGuarded, IsOver, IsHome, LoadFacts, Sound}
 use Rattle.krl_locked_table.proofs.Frames.{Goes, goes_same, Frame, load_framed, all_framed}
 use Rattle.krl_locked_table.proofs.Transactions.{goes_to, step_goes, crash_goes, proper_unfixed, new_proper, step_proper, crash_proper, step_recovered}
-use Rattle.krl_locked_table.proofs.Loads.{new_load_kept, load_kept}
+use Rattle.krl_locked_table.proofs.Loads.{load_kept}
 use Rattle.krl_locked_table.proofs.Agent.{alive_kept, drawn_kept, written_kept, opened_kept, taken_kept, announced_kept, recalled_kept, given_up_kept, lock_kept, nobody_shares, ended_kept}
 
 -- Time passes
