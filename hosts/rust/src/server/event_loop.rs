@@ -38,6 +38,10 @@ use std::time::{Duration, Instant};
 /// which client waits for which.
 const NUDGE: Duration = Duration::from_millis(50);
 
+/// How long a push waits for its acknowledgement before it is repeated: an idle client ticks within
+/// this time, and so acknowledges what it has.
+const ACKNOWLEDGED_WITHIN: Duration = Duration::from_millis(300);
+
 /// How often a server that commits nothing asks whether the store is still its own.
 const ASKS_STORE: Duration = Duration::from_secs(1);
 
@@ -364,12 +368,21 @@ impl EventLoop {
         self.nudged = now.monotonic;
         self.connections.close_dead();
         for client in self.connections.clients() {
-            // A nudge for which there is no memory is a message that is lost.
-            let _ = self.server.nudge(client);
+            if self.is_nudged(client, now.monotonic) {
+                // A nudge for which there is no memory is a message that is lost.
+                let _ = self.server.nudge(client);
+            }
         }
         self.look_at_waits(now);
         self.evict_ended(now)?;
         Ok(true)
+    }
+
+    /// Whether a client is nudged: one that waits for a lock has others called back for it. To any
+    /// other one only its last push would be sent again.
+    fn is_nudged(&self, client: u8, now: Instant) -> bool {
+        self.requests.waits(client)
+            || !self.held_back.has_pushed_within(client, ACKNOWLEDGED_WITHIN, now)
     }
 
     /// Gives the connections what leaves, and takes requests that were kept, as far as what has left

@@ -46,6 +46,12 @@ impl HeldBack {
         self.count
     }
 
+    /// Whether a push went to the client within this time.
+    pub fn has_pushed_within(&self, client: u8, time: Duration, now: Instant) -> bool {
+        let push = self.last.get(usize::from(client)).and_then(|sent| sent.push.as_ref());
+        push.is_some_and(|push| now.saturating_duration_since(push.sent) < time)
+    }
+
     /// Whether the message went to the client just now. One that is held back counts as lost, which
     /// the protocol allows; a tick or a nudge brings it again.
     pub fn holds(&mut self, client: u8, message: Message<'_>, now: Instant) -> bool {

@@ -99,6 +99,11 @@ impl OpenRequests {
         asked.filter_map(|(client, asked)| asked.map(|_| client))
     }
 
+    /// Whether the client's last request for a lock is not answered.
+    pub fn waits(&self, client: u8) -> bool {
+        self.asked.get(usize::from(client)).is_some_and(Option::is_some)
+    }
+
     /// The client has left: it waits for nothing, and has nothing to give back.
     pub fn left(&mut self, client: u8) {
         self.forget(usize::from(client));

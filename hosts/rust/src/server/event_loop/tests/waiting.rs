@@ -1,7 +1,7 @@
 //! Clients that wait for what a release has given to another one.
 use crate::access::Entry;
 use crate::client::state::world::{messages, row};
-use crate::client::state::{Asked, Asking, Held, Purpose, State};
+use crate::client::state::{Asked, Asking, Held, IDLE_TICK, Purpose, State};
 use crate::identity::Identity;
 use crate::lease::clocks::Now;
 use crate::model::change::{Outcome, Write};
@@ -10,8 +10,8 @@ use crate::model::row::Row;
 use crate::net::address::Address;
 use crate::net::stream::PeerAddress;
 use crate::proved::client_handle::ClientHandle;
-use crate::server::event_loop::EventLoop;
 use crate::server::event_loop::admission::{LATELY, MAX_RECENT_REQUESTS};
+use crate::server::event_loop::{ACKNOWLEDGED_WITHIN, EventLoop, NUDGE};
 use crate::server::opening::Decided;
 use crate::server::shown::timings::Timings;
 use crate::store::MemoryStore;
@@ -103,6 +103,26 @@ impl World {
             state.receive(message).unwrap();
         }
         state.advance(Asking::Allowed);
+    }
+
+    /// Time passes: the server nudges, and clients tick as soon as they do when nothing comes.
+    /// Returns how many bytes leave the server.
+    fn pass(&mut self, time: Duration) -> usize {
+        self.now = self.now.after(time);
+        self.events.nudge(self.now).unwrap();
+        self.events.send(self.now).unwrap();
+        let mut left = 0;
+        while let Some(connection) = self.events.connections().next_to_write() {
+            let mut bytes = Vec::new();
+            self.events.connections().write(connection, &mut bytes);
+            left += bytes.len();
+            self.deliver(connection, &bytes);
+        }
+        for client in &mut self.clients {
+            client.at(self.now).tick_if_due();
+        }
+        self.deliver_to_server();
+        left
     }
 
     fn ask<T>(&mut self, client: usize, ask: impl FnOnce(&mut State) -> Asked<T>) -> Asked<T> {
@@ -216,4 +236,34 @@ fn a_client_that_has_left_waits_for_nothing() {
     world.unpin(0, pin);
     assert!(world.events.server.record(1).unwrap().unwrap().left);
     assert_eq!(world.events.requests.waiting().count(), 0, "it has left");
+}
+
+/// A world whose one client has just read some rows and ticked shortly before.
+fn world_of_a_lone_read() -> World {
+    let mut world = World::of(1);
+    world.pass(IDLE_TICK);
+    let read = world.ask(0, |state| state.read(0..100));
+    assert_eq!(read.answer.try_recv(), Ok(Ok(Vec::new())));
+    world
+}
+
+#[test]
+fn a_lone_grant_leaves_the_server_once() {
+    let mut world = world_of_a_lone_read();
+    let sent: usize = (0..40).map(|_| world.pass(NUDGE)).sum();
+    assert_eq!(sent, 0, "the next tick acknowledges the grant");
+}
+
+#[test]
+fn a_push_that_no_tick_acknowledges_is_repeated() {
+    let mut world = world_of_a_lone_read();
+    world.clients.clear();
+    let is_sent = |world: &mut World, time| {
+        world.now = world.now.after(time);
+        world.events.nudge(world.now).unwrap();
+        world.events.send(world.now).unwrap();
+        world.events.connections().next_to_write().is_some()
+    };
+    assert!(!is_sent(&mut world, ACKNOWLEDGED_WITHIN / 2));
+    assert!(is_sent(&mut world, ACKNOWLEDGED_WITHIN / 2), "its acknowledgement may be lost");
 }

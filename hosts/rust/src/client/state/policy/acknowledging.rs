@@ -3,9 +3,9 @@
 //! Each message of a client acknowledges the last push that it has. A server needs that before its
 //! next push to the same client, and has none to make as long as the client waits for nothing. So
 //! the acknowledgement of the last push for which the client has waited is left out: the client's
-//! next message does it, or its next tick. If neither comes soon, the server repeats the push, and
-//! a repeated push is acknowledged at once. A release that leaves with such an acknowledgement makes
-//! it too.
+//! next message does it, or its next tick, which an idle client sends anyway before the server
+//! repeats the push (`ACKNOWLEDGED_WITHIN` of the server). A repeated push is acknowledged at once.
+//! A release that leaves with such an acknowledgement makes it too.
 //!
 //! What others wait for comes no later: a server calls it back when it has granted it, or its host
 //! has it do so (`EventLoop::send`).
