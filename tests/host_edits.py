@@ -12,7 +12,7 @@ Change = namedtuple("Change", "file old new")
 Edit = namedtuple("Edit", "name changes test")
 
 # The head of a function in Rust, as rustfmt lays it out: in the first column of its item.
-HEAD = re.compile(r'( *)(?:pub(?:\([a-z:]+\))? )?(const )?(?:async )?(?:unsafe )?(?:extern "C" )?fn \w')
+HEAD = re.compile(r'( *)(?:pub(?:\([\w: ]+\))? )?(const )?(?:async )?(?:unsafe )?(?:extern "C" )?fn \w')
 # The variable of the environment that chooses an edit.
 VARIABLE = "WRONG_HOST_"
 

@@ -1,21 +1,14 @@
 //! What a client has been asked to do, as far as it has come.
-mod acknowledging;
 mod batch;
 mod bound;
-mod callbacks;
-mod contended;
 mod hold;
-mod keeping;
 mod leased;
 mod life;
 mod pins;
+mod policy;
 mod request;
-mod sharing;
-mod takings;
-mod unkept;
 mod watched;
 mod writing;
-mod yielding;
 
 use crate::call::error::ErrorKind;
 use crate::client::answer::{Answer, Answering, place};
@@ -32,14 +25,14 @@ use std::time::{Duration, Instant};
 
 use batch::Report;
 use bound::Wanted;
-use contended::Attempts;
 use hold::Taking;
 pub use hold::{Held, PATIENCE, Purpose};
-use keeping::Keeping;
 pub(crate) use life::Dropped;
 use life::{Life, PerIncarnation, Stage};
+use policy::contended::Attempts;
+use policy::keeping::Keeping;
+use policy::sharing::SharedRows;
 pub(crate) use request::Asking;
-use sharing::SharedRows;
 use watched::Watches;
 
 /// How often a client repeats unanswered requests, and how often an idle one shows that it is alive.

@@ -1,12 +1,12 @@
 //! How a client leaves and ends; and how it drops what it knows and begins again, after its
 //! server's store went back or is another one, or its lease has ended.
-use super::acknowledging::Acknowledging;
-use super::callbacks::Callbacks;
 use super::leased::MaySend;
 use super::pins::PinTable;
+use super::policy::acknowledging::Acknowledging;
+use super::policy::callbacks::Callbacks;
+use super::policy::takings::Takings;
+use super::policy::unkept::Question;
 use super::request::Request;
-use super::takings::Takings;
-use super::unkept::Question;
 use super::writing::Written;
 use super::{Asked, Asking, Job, JobId, State};
 use crate::call::error::ErrorKind;

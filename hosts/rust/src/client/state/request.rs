@@ -30,13 +30,6 @@ impl Request {
 }
 
 impl State {
-    /// Whether the job may ask for a lock from this point on, just now.
-    pub(super) fn may_ask(&self, id: JobId, point: u64) -> bool {
-        self.asking == Asking::Allowed
-            && !self.shows(|shown| shown.is_waiting)
-            && self.held.takings.may_ask(id, point)
-    }
-
     /// Whether the last lock was asked for by this job.
     pub(super) fn has_asked(&self, id: JobId) -> bool {
         self.held.request.as_ref().is_some_and(|request| request.by == id)

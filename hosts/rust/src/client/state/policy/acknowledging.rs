@@ -9,14 +9,14 @@
 //!
 //! What others wait for comes no later: a server calls it back when it has granted it, or its host
 //! has it do so (`EventLoop::send`).
-use super::State;
+use crate::client::state::State;
 use crate::proved::client_handle::Shown;
 use crate::wire::frames::split;
 use crate::wire::message::{Kind, Message};
 
 /// How the client acknowledges what it has received since it last sent something.
 #[derive(Clone, Copy, Debug, Default, PartialEq, Eq)]
-pub(super) enum Acknowledging {
+pub enum Acknowledging {
     /// By a message.
     #[default]
     AtOnce,
@@ -26,15 +26,27 @@ pub(super) enum Acknowledging {
 
 impl State {
     /// The client has received a message of this kind. `awaited` is whether it waited for a push.
-    pub(super) fn note_received(&mut self, kind: Kind, awaited: bool) {
-        let is_last = kind.is_push() && awaited && !self.shows(Shown::awaits_a_push);
-        self.held.acknowledging =
-            if is_last { Acknowledging::Later } else { Acknowledging::AtOnce };
+    pub(in crate::client::state) fn note_received(&mut self, kind: Kind, awaited: bool) {
+        self.held.acknowledging = if awaited && self.acknowledges_later(kind) {
+            Acknowledging::Later
+        } else {
+            Acknowledging::AtOnce
+        };
+    }
+
+    /// Whether its next message may acknowledge a message of this kind that it has awaited: it is the
+    /// last push for which it waits.
+    fn acknowledges_later(&self, kind: Kind) -> bool {
+        kind.is_push() && !self.shows(Shown::awaits_a_push)
     }
 
     /// Leaves out the acknowledgement with which begins what the client sends from this place on, if
     /// it can wait and nothing but a release comes next.
-    pub(super) fn leave_out_acknowledgement(&mut self, frames: &mut Vec<u8>, from: usize) {
+    pub(in crate::client::state) fn leave_out_acknowledgement(
+        &mut self,
+        frames: &mut Vec<u8>,
+        from: usize,
+    ) {
         let how = std::mem::take(&mut self.held.acknowledging);
         if how == Acknowledging::Later
             && let Some(length) = needless_acknowledgement(&frames[from..])
@@ -56,8 +68,8 @@ fn needless_acknowledgement(frames: &[u8]) -> Option<usize> {
 
 #[cfg(test)]
 mod tests {
-    use super::super::world::{World, row};
     use super::needless_acknowledgement;
+    use crate::client::state::world::{World, row};
     use crate::model::change::{Outcome, Write};
     use crate::wire::message::kind::{ACK, LOCK, RELEASE};
     use crate::wire::message::tests::message;

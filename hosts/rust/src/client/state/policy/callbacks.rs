@@ -15,7 +15,7 @@
 //!   answered, a push is always on its way, and others would wait for long. So it takes such a
 //!   callback again as soon as it has the push, before it asks for anything else. The library sends
 //!   the release again then, and this time it names that push.
-use super::State;
+use crate::client::state::State;
 use crate::model::code::Code;
 use crate::proved::client_handle::{ClientHandle, Shown};
 use crate::wire::message::Message;
@@ -28,11 +28,11 @@ use std::time::{Duration, Instant};
 const MAX_CALLBACKS: usize = 256;
 
 /// How long after a callback the client assumes that another one is at work there.
-pub(super) const CONTENDED_FOR: Duration = Duration::from_secs(1);
+pub const CONTENDED_FOR: Duration = Duration::from_secs(1);
 
 /// The last callbacks, one for each span, the last one at the end.
 #[derive(Debug, Default)]
-pub(super) struct Callbacks {
+pub struct Callbacks {
     last: VecDeque<Callback>,
     /// Some of them may have crossed a push.
     have_crossed: bool,
@@ -118,7 +118,7 @@ impl State {
     }
 
     /// Gives the client a message, and after a push the callbacks that may have crossed it.
-    pub(super) fn step(&mut self, message: Message<'_>) -> Result<(), Code> {
+    pub(in crate::client::state) fn step(&mut self, message: Message<'_>) -> Result<(), Code> {
         if let Some(span) = message.called_back() {
             return self.call_back(span, message.bytes());
         }
@@ -131,13 +131,13 @@ impl State {
             self.call_back_again(was_waiting)?;
         }
         if let Some(slot) = message.answered_slot() {
-            self.share_written(&slot);
+            self.end_of_write(&slot);
         }
         Ok(())
     }
 
     /// Whether this is so of the client, if it is still there.
-    pub(super) fn shows(&self, is_so: impl FnOnce(&Shown) -> bool) -> bool {
+    pub(in crate::client::state) fn shows(&self, is_so: impl FnOnce(&Shown) -> bool) -> bool {
         self.client.status().is_ok_and(|shown| is_so(&shown))
     }
 

@@ -12,8 +12,8 @@
 //!
 //! Where the client keeps nothing, callbacks show only what was before: it is called back for
 //! nothing there, and other clients that write so often keep nothing either.
-use super::bound::{Bond, Wanted};
-use super::{JobId, State};
+use crate::client::state::bound::{Bond, Wanted};
+use crate::client::state::{JobId, State};
 use crate::model::change::Write;
 
 /// If the lock of a write was not free, this many writes ask for theirs first: it is the first of
@@ -22,7 +22,7 @@ const WRITES_THAT_ASK_FIRST: u8 = 8;
 
 /// Whether writes try to take their locks, but for where others are at work.
 #[derive(Debug, Default)]
-pub(super) struct Attempts {
+pub struct Attempts {
     is_served: bool,
     /// This many writes do not.
     pause: u8,
@@ -51,7 +51,7 @@ impl State {
     /// Whether the write of this job, for which the client lacks the lock, takes it by itself: if
     /// the client might ask for that lock just now, and has nothing there that it would have to
     /// give back before. Where the client has a pin it holds something already.
-    pub(super) fn may_take(&mut self, id: JobId, wanted: &Wanted) -> bool {
+    pub(in crate::client::state) fn may_take(&mut self, id: JobId, wanted: &Wanted) -> bool {
         let key = wanted.write.key();
         // A delete needs the locks of two slots, and takes neither.
         !matches!(wanted.write, Write::Delete(_))
@@ -64,7 +64,8 @@ impl State {
 
     /// Whether other clients may hold what a write of this key needs.
     fn is_contended(&self, key: u64) -> bool {
-        !self.keeping.is_unkept(key) && self.held.callbacks.show_contention(key, self.now.monotonic)
+        self.keeping.keeps(&(key..key + 1))
+            && self.held.callbacks.show_contention(key, self.now.monotonic)
     }
 }
 

@@ -19,8 +19,8 @@
 //! asked for again, and if the server ignores a release, it calls the client back later. But a
 //! caller that waits for changes of a range does so by what the client knows of it, and would read
 //! it again and again. So what was watched once is kept.
-use super::State;
-use super::sharing::entry_of;
+use super::entry_of;
+use crate::client::state::State;
 use crate::proved::client_handle::Shown;
 use crate::proved::hits::{Hits, REGIONS, region_around, region_of, regions_of};
 use crate::wire::read_frame::PAGE;
@@ -37,7 +37,7 @@ const FEWEST_READS: u16 = 256;
 const MOST_READS: u16 = 4096;
 
 /// What of the rows that it reads the client keeps.
-pub(super) struct Keeping {
+pub struct Keeping {
     regions: Box<[Region]>,
     everywhere: Count,
     /// As was counted last, it has lost more everywhere than it saved.
@@ -131,11 +131,6 @@ impl Keeping {
         regions_of(keys).for_each(|region| self.regions[region].is_watched = true);
     }
 
-    /// Whether the client keeps nothing that it reads or writes around this key.
-    pub fn is_unkept(&self, key: u64) -> bool {
-        self.reads_unkept(&(key..key + 1))
-    }
-
     fn keeps_always(&self, span: &Range<u64>) -> bool {
         self.keeps_all || regions_of(span).any(|region| self.regions[region].is_watched)
     }
@@ -159,9 +154,9 @@ impl Keeping {
         }
     }
 
-    /// Whether the client does not keep what it reads of these keys.
-    pub fn reads_unkept(&self, keys: &Range<u64>) -> bool {
-        self.regions[region_of(keys.start)].unkept > 0 && !self.keeps_always(keys)
+    /// Whether the client keeps what it reads or writes of these keys.
+    pub fn keeps(&self, keys: &Range<u64>) -> bool {
+        self.regions[region_of(keys.start)].unkept == 0 || self.keeps_always(keys)
     }
 }
 
@@ -172,28 +167,28 @@ impl State {
     }
 
     /// Whether the client reads the entry of this slot, and the gap below it.
-    pub(super) fn reads_of(&self, slot: &Range<u64>) -> [bool; 2] {
+    pub(in crate::client::state) fn reads_of(&self, slot: &Range<u64>) -> [bool; 2] {
         let entry = entry_of(slot);
         [self.client.reads_entry(entry), self.client.reads_gap(entry)]
     }
 
     /// This slot was called back, of which the client read this before. What is pinned it still
     /// reads.
-    pub(super) fn note_lost(&mut self, slot: &Range<u64>, read: [bool; 2]) {
+    pub(in crate::client::state) fn note_lost(&mut self, slot: &Range<u64>, read: [bool; 2]) {
         if read.into_iter().zip(self.reads_of(slot)).any(|(before, after)| before && !after) {
             self.keeping.note_lost(entry_of(slot));
         }
     }
 
     /// A job has read these keys, of which it has asked the server.
-    pub(super) fn note_read(&mut self, keys: &Range<u64>) {
+    pub(in crate::client::state) fn note_read(&mut self, keys: &Range<u64>) {
         self.keeping.note_read(keys, self.client.hits());
     }
 
     /// A job has read this many rows of these keys with a lock. What is not kept, and was locked
     /// since another client excluded readers, is given back.
-    pub(super) fn note_locked_read(&mut self, keys: &Range<u64>, rows: usize) {
-        if rows <= PAGE && self.keeping.reads_unkept(keys) {
+    pub(in crate::client::state) fn note_locked_read(&mut self, keys: &Range<u64>, rows: usize) {
+        if rows <= PAGE && !self.keeping.keeps(keys) {
             self.keeping.given_up.push(keys.clone());
         }
         self.note_read(keys);
@@ -201,7 +196,7 @@ impl State {
 
     /// Gives back what the client no longer keeps, when all jobs have continued. What is pinned stays
     /// until it is called back.
-    pub(super) fn give_back_unkept(&mut self) {
+    pub(in crate::client::state) fn give_back_unkept(&mut self) {
         for keys in mem::take(&mut self.keeping.given_up) {
             // The server passes over a release that leaves while a push is on its way.
             if !self.shows(Shown::awaits_a_push) {
@@ -210,13 +205,10 @@ impl State {
         }
     }
 
-    /// Gives back what the client has just written in this slot, unless it keeps it. Returns whether
-    /// it is given back.
-    pub(super) fn give_back_written(&mut self, slot: &Range<u64>) -> bool {
-        self.keeping.is_unkept(entry_of(slot))
-            && self.may_share(slot)
-            // A pin keeps what it has, and without memory nothing is given back.
-            && self.try_forget(slot) == Ok(true)
+    /// Whether the client gives back what it has just written in this slot: it does not keep it.
+    pub(in crate::client::state) fn gives_back_after_write(&self, slot: &Range<u64>) -> bool {
+        let entry = entry_of(slot);
+        !self.keeping.keeps(&(entry..entry + 1))
     }
 }
 

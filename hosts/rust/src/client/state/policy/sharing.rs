@@ -10,9 +10,8 @@
 //! The client knows that others want a row if the row was called back while it had it in X. It does
 //! not know when they lose interest: so one callback counts for this many writes, and then the next
 //! callback has to come.
-use super::{Job, State};
-use crate::model::lock::Mode;
-use crate::proved::client_handle::Shown;
+use super::entry_of;
+use crate::client::state::State;
 use std::collections::HashMap;
 use std::collections::hash_map::Entry;
 use std::ops::Range;
@@ -25,7 +24,7 @@ const MAX_ROWS: usize = 4096;
 
 /// The rows that other clients want, and how many of the next writes of each are to share it.
 #[derive(Debug, Default)]
-pub(super) struct SharedRows(HashMap<u64, u8>);
+pub struct SharedRows(HashMap<u64, u8>);
 
 impl SharedRows {
     /// Another client wanted the row of this key.
@@ -49,52 +48,17 @@ impl SharedRows {
 
 impl State {
     /// This slot is called back. The client still holds what it held of it.
-    pub(super) fn note_shared(&mut self, slot: &Range<u64>) {
+    pub(in crate::client::state) fn note_shared(&mut self, slot: &Range<u64>) {
         let entry = entry_of(slot);
         if self.client.may_change(entry) {
             self.shared.note(entry);
         }
     }
 
-    /// A write was answered, and the answer names this slot: the client gives it back if it does not
-    /// keep it, and shares it if others want it.
-    pub(super) fn share_written(&mut self, slot: &Range<u64>) {
-        if self.give_back_written(slot) {
-            return;
-        }
-        if self.may_share(slot) && self.shared.count(entry_of(slot)) {
-            // What a pin keeps is not given back, nor is anything if there is no memory for it:
-            // whoever wants it has it called back then.
-            let _ = self.client.lower(slot, Mode::RangeSU);
-        }
+    /// Whether the client shares the row that it has just written in this slot.
+    pub(in crate::client::state) fn shares_after_write(&mut self, slot: &Range<u64>) -> bool {
+        self.shared.count(entry_of(slot))
     }
-
-    /// Whether the client has just written the row of this slot, and needs no more of it than
-    /// others may have.
-    pub(super) fn may_share(&self, slot: &Range<u64>) -> bool {
-        // The server passes over a release that leaves while a push is on its way.
-        self.has_just_written()
-            && !self.shows(Shown::awaits_a_push)
-            && self.client.may_change(entry_of(slot))
-            && !self.open.iter().any(|(_, job)| job.changes(slot))
-    }
-}
-
-impl Job {
-    /// Whether the job changes something of this slot, or pins something there.
-    fn changes(&self, slot: &Range<u64>) -> bool {
-        match self {
-            Job::Write(wanted, _) => slot.contains(&wanted.write.key()),
-            Job::Hold(taking, _) => taking.meets(slot),
-            _ => false,
-        }
-    }
-}
-
-/// The point at which the row of a slot lies.
-pub(super) fn entry_of(slot: &Range<u64>) -> u64 {
-    // No slot is empty, and a message may still say so.
-    slot.end.saturating_sub(1)
 }
 
 #[cfg(test)]

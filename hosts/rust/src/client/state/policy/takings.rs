@@ -5,12 +5,12 @@
 //! waits for a point below one that it keeps. A client has one request on its way, for one of its
 //! jobs. So a job waits that would ask below what another one keeps; and none keeps what lies above
 //! a request of another one.
-use super::{JobId, State};
+use crate::client::state::{Asking, JobId, State};
 use std::ops::Range;
 
 /// The jobs that take several slots.
 #[derive(Debug, Default)]
-pub(super) struct Takings {
+pub struct Takings {
     begun: Vec<Taken>,
 }
 
@@ -66,9 +66,16 @@ impl Takings {
 }
 
 impl State {
+    /// Whether the job may ask for a lock from this point on, just now.
+    pub(in crate::client::state) fn may_ask(&self, id: JobId, point: u64) -> bool {
+        self.asking == Asking::Allowed
+            && !self.shows(|shown| shown.is_waiting)
+            && self.held.takings.may_ask(id, point)
+    }
+
     /// Whether a job may keep points below this one while it waits for more: not if the request of
     /// another job waits for one of them, or below.
-    pub(super) fn may_keep(&self, id: JobId, end: u64) -> bool {
+    pub(in crate::client::state) fn may_keep(&self, id: JobId, end: u64) -> bool {
         let request = self.held.request.as_ref();
         let is_below = request.is_some_and(|request| request.is_of_another_below(id, end));
         !is_below || !self.shows(|shown| shown.is_waiting)

@@ -14,14 +14,14 @@
 //!   which another client holds so much, and the client waits for a lock.
 //!
 //! A connection has one question on its way. The next job that wants to ask waits for its answer.
-use super::{Asking, Job, JobId, State};
+use crate::client::state::{Asking, Job, JobId, State};
 use crate::model::code::Code;
 use crate::wire::read_frame::{ReadRequest, RowPage};
 use std::ops::Range;
 
 /// The question that is on its way. Its job is open.
 #[derive(Debug)]
-pub(super) struct Question {
+pub struct Question {
     by: JobId,
     request: ReadRequest,
     /// It has not left on this connection, or is to be repeated.
@@ -30,13 +30,17 @@ pub(super) struct Question {
 
 impl State {
     /// Whether the job reads these keys, which the client does not know, without a lock.
-    pub(super) fn reads_without_lock(&self, job: JobId, keys: &Range<u64>) -> bool {
+    pub(in crate::client::state) fn reads_without_lock(
+        &self,
+        job: JobId,
+        keys: &Range<u64>,
+    ) -> bool {
         let may_ask = self.has_joined() && self.held.needs_lock != Some(job);
-        may_ask && self.keeping.reads_unkept(keys)
+        may_ask && !self.keeping.keeps(keys)
     }
 
     /// Asks the server's host for the rows, if no other question is on its way.
-    pub(super) fn ask_for_rows(&mut self, by: JobId, keys: &Range<u64>) {
+    pub(in crate::client::state) fn ask_for_rows(&mut self, by: JobId, keys: &Range<u64>) {
         if self.held.question.is_none() {
             let number = self.next_name();
             let request = ReadRequest { number, lo: keys.start, hi: keys.end };
@@ -45,19 +49,19 @@ impl State {
     }
 
     /// The job has ended, and needs no answer.
-    pub(super) fn withdraw_question(&mut self, job: JobId) {
+    pub(in crate::client::state) fn withdraw_question(&mut self, job: JobId) {
         self.held.question.take_if(|question| question.by == job);
     }
 
     /// The question may not have come, and is sent once more.
-    pub(super) fn repeat_question(&mut self) {
+    pub(in crate::client::state) fn repeat_question(&mut self) {
         if let Some(question) = &mut self.held.question {
             question.is_due = true;
         }
     }
 
     /// Appends the question, if it is to be sent.
-    pub(super) fn append_question(&mut self, frames: &mut Vec<u8>) {
+    pub(in crate::client::state) fn append_question(&mut self, frames: &mut Vec<u8>) {
         if let Some(question) = self.held.question.as_mut().filter(|question| question.is_due) {
             question.is_due = false;
             question.request.append(frames);

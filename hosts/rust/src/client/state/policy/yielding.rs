@@ -15,8 +15,8 @@
 //! of them reads the gap again after the insert.
 mod reach;
 
-use super::request::Request;
-use super::{JobId, State, is_taken};
+use crate::client::state::request::Request;
+use crate::client::state::{JobId, State, is_taken};
 use crate::model::code::Code;
 use crate::model::lock::Mode;
 use crate::model::row::{END, Row};
@@ -51,7 +51,7 @@ impl State {
     /// Asks for a lock with which the client may change something, now or later, if it may ask just
     /// now. Returns whether it has. What the client only reads of the first slot it gives back
     /// before, unless it is pinned: the release and the request leave together.
-    pub(super) fn ask_to_change(
+    pub(in crate::client::state) fn ask_to_change(
         &mut self,
         id: JobId,
         points: Range<u64>,
@@ -60,17 +60,21 @@ impl State {
         if !self.may_ask(id, points.start) {
             return Ok(false);
         }
-        let read = self.slot_only_read(points.start, mode);
+        let read = self.yields_before_change(points.start, mode);
         self.ask(id, points, mode, read)
     }
 
     /// Asks for a lock with which the client reads, if it may ask just now. Returns whether it has.
     /// What a callback left of the first slot it gives back before, as above.
-    pub(super) fn ask_to_read(&mut self, id: JobId, points: Range<u64>) -> Result<bool, Code> {
+    pub(in crate::client::state) fn ask_to_read(
+        &mut self,
+        id: JobId,
+        points: Range<u64>,
+    ) -> Result<bool, Code> {
         if !self.may_ask(id, points.start) {
             return Ok(false);
         }
-        let left = self.left_by_a_callback(points.start);
+        let left = self.yields_before_read(points.start);
         self.ask(id, points, Mode::RangeSS, left)
     }
 
@@ -100,7 +104,7 @@ impl State {
 
     /// Gives back again what the client gave back before the request that waits. A connection that
     /// has ended may have lost the release, and the request is sent again on the next one.
-    pub(super) fn yield_again(&mut self) {
+    pub(in crate::client::state) fn yield_again(&mut self) {
         if let Some(Request { yielded: Some(span), .. }) = &self.held.request
             && self.shows(|shown| shown.is_waiting)
         {
@@ -110,7 +114,7 @@ impl State {
     }
 
     /// The slot of this point, if the client reads there and has no greater mode.
-    fn slot_only_read(&self, point: u64, mode: Mode) -> Option<OnlyRead> {
+    fn yields_before_change(&self, point: u64, mode: Mode) -> Option<OnlyRead> {
         let is_entry_read = self.client.reads_entry(point);
         // There is no entry to lock: the server answers so at once, wherever the request stands.
         if mode == Mode::X && !is_entry_read {
@@ -120,12 +124,12 @@ impl State {
             return self.slot_with_gap(point);
         }
         let is_alone = || OnlyRead { span: point..point + 1, has_gap: false };
-        self.left_by_a_callback(point).or_else(|| is_entry_read.then(is_alone))
+        self.yields_before_read(point).or_else(|| is_entry_read.then(is_alone))
     }
 
     /// The slot of this point, if a callback left the client only its entry. Another client may
     /// still wait for the gap.
-    fn left_by_a_callback(&self, point: u64) -> Option<OnlyRead> {
+    fn yields_before_read(&self, point: u64) -> Option<OnlyRead> {
         let slot = self.held.callbacks.narrowed_slot(point)?;
         if !self.client.reads_only_entry(slot) {
             return None;

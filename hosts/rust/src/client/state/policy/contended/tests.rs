@@ -1,7 +1,7 @@
 use super::WRITES_THAT_ASK_FIRST;
 use crate::call::error::ErrorKind;
 use crate::client::state::bound::Wanted;
-use crate::client::state::callbacks::CONTENDED_FOR;
+use crate::client::state::policy::callbacks::CONTENDED_FOR;
 use crate::client::state::world::{World, pass, row};
 use crate::client::state::{Asking, Purpose};
 use crate::model::change::{Outcome, Write};

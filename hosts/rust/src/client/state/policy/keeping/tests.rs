@@ -1,6 +1,6 @@
 use super::*;
 use crate::client::state::Purpose;
-use crate::client::state::callbacks::CONTENDED_FOR;
+use crate::client::state::policy::callbacks::CONTENDED_FOR;
 use crate::client::state::world::{World, pass, row};
 use crate::model::change::{Outcome, Write};
 use crate::model::row::END;

@@ -1,6 +1,6 @@
 use super::*;
 use crate::call::error::ErrorKind;
-use crate::client::state::callbacks::CONTENDED_FOR;
+use crate::client::state::policy::callbacks::CONTENDED_FOR;
 use crate::client::state::world::{World, pass, row};
 use crate::client::state::{Asked, Purpose};
 use crate::model::change::{Outcome, Write};

@@ -107,7 +107,7 @@ fn a_reader_of_an_entry_without_its_gap_waits_for_the_write_too() {
 fn a_callback_leaves_the_entry_of_a_slot() {
     let mut world = read_without_its_gap();
     let left = |world: &World, point| {
-        let left = world.clients[1].left_by_a_callback(point);
+        let left = world.clients[1].yields_before_read(point);
         left.map(|OnlyRead { span, has_gap }| (span, has_gap))
     };
     assert_eq!(left(&world, 9), Some((6..11, false)));
