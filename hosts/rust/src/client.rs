@@ -2,7 +2,6 @@
 mod alarm;
 pub(crate) mod answer;
 pub(crate) mod asynchronous;
-mod attempt;
 mod backoff;
 mod blocking;
 pub(crate) mod builder;

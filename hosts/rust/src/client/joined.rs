@@ -1,9 +1,8 @@
 //! The servers that a client has joined by one map, or the only one.
 use crate::call::error::{Error, ErrorKind};
 use crate::client::link::Link;
-use crate::client::shard_client::{LEAVE_TIMEOUT, ShardClient};
+use crate::client::shard_client::{ShardClient, leave_soon};
 use crate::client::state::State;
-use crate::client::waiting::Waiting;
 use crate::model::row::{END, Row};
 use crate::net::servers::Servers;
 use crate::proved::losses::Tenure;
@@ -13,10 +12,6 @@ use crate::shards::one_moment::{self, Known};
 use std::iter;
 use std::ops::Range;
 use std::sync::Arc;
-use std::time::{Duration, Instant};
-
-/// How long a client that has not joined may take to leave.
-const NOT_JOINED: Duration = Duration::from_secs(5);
 
 /// The servers that a client has joined, by one map. A shard that the next map has as it is has the
 /// same client by both.
@@ -150,22 +145,6 @@ impl Joined {
         Ok(self.is_known(&self.parts(keys)?, rows))
     }
 
-    /// The rows of the range, as the stores of its shards have them, each at a moment of its own. The
-    /// caches keep nothing of it.
-    pub async fn read_once(
-        &self,
-        keys: &Range<u64>,
-        deadline: Instant,
-        waiting: Waiting,
-    ) -> Result<Vec<Row>, Error> {
-        let mut rows = Vec::new();
-        for Part { shard, keys } in self.parts(keys)? {
-            let part = self.client(shard).read_once(keys, deadline, waiting).await;
-            rows.extend(part.map_err(self.error_at(shard))?);
-        }
-        Ok(rows)
-    }
-
     /// The tenure of a range that is not empty, if the caches of the shards cover it.
     pub fn tenure(&self, keys: &Range<u64>, room: &mut Vec<Row>) -> Result<Option<Tenure>, Error> {
         let parts = self.parts(keys)?;
@@ -191,32 +170,5 @@ impl Joined {
             keys: keys.clone(),
         };
         one_moment::scan(&parts.iter().map(known).collect::<Vec<_>>(), rows)
-    }
-}
-
-/// Leaves the servers of all these clients at once, and waits for as long as a client that is
-/// dropped does.
-pub(crate) fn leave_soon(clients: &[&Arc<ShardClient>]) {
-    leave_all(clients, Instant::now() + LEAVE_TIMEOUT);
-}
-
-/// Leaves the servers of all these clients at once, and waits for each until the deadline. Then each
-/// of them has ended and answers nothing, whether or not its server has kept that it left. One that
-/// has not joined has nothing, and its server may be gone: it is not waited for so long.
-pub(crate) fn leave_all(clients: &[&Arc<ShardClient>], end: Instant) {
-    let soon = end.min(Instant::now() + NOT_JOINED);
-    let begin = |client: &&Arc<ShardClient>| {
-        let has_joined = client.link().with_state(|state| state.has_joined());
-        (client.link().begin(State::leave), if has_joined { end } else { soon })
-    };
-    let leaving: Vec<_> = clients.iter().map(begin).collect();
-    for (client, (leaving, end)) in clients.iter().zip(leaving) {
-        if client.link().finish(leaving, end).is_ok() {
-            client.end(end);
-        }
-    }
-    for client in clients {
-        client.link().with_state(State::end_unanswered);
-        client.end_by(Instant::now());
     }
 }

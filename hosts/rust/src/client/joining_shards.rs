@@ -1,9 +1,9 @@
 //! How a client joins the shards of a map, by this map or by a next one.
 use crate::call::error::{ErrorKind, JoinError, JoinErrorKind};
 use crate::client::followed_map::FollowedMap;
-use crate::client::joined::{Joined, leave_soon};
+use crate::client::joined::Joined;
 use crate::client::joining::{self, JoinPurpose, Waits};
-use crate::client::shard_client::ShardClient;
+use crate::client::shard_client::{ShardClient, leave_soon};
 use crate::client::state::Asked;
 #[cfg(feature = "tls")]
 use crate::net::tls::TlsConfig;

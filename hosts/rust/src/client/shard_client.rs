@@ -16,7 +16,10 @@ use std::thread::{self, JoinHandle};
 use std::time::{Duration, Instant};
 
 /// How long a client that is dropped waits until its Bye is kept.
-pub(crate) const LEAVE_TIMEOUT: Duration = Duration::from_secs(1);
+const LEAVE_TIMEOUT: Duration = Duration::from_secs(1);
+
+/// How long a client that has not joined may take to leave.
+const NOT_JOINED: Duration = Duration::from_secs(5);
 
 /// A client of one server, with the thread of its connection. It leaves when it is dropped.
 pub(crate) struct ShardClient {
@@ -109,5 +112,32 @@ impl ShardClient {
 impl Drop for ShardClient {
     fn drop(&mut self) {
         self.end_by(Instant::now() + LEAVE_TIMEOUT);
+    }
+}
+
+/// Leaves the servers of all these clients at once, and waits for as long as a client that is
+/// dropped does.
+pub(crate) fn leave_soon(clients: &[&Arc<ShardClient>]) {
+    leave_all(clients, Instant::now() + LEAVE_TIMEOUT);
+}
+
+/// Leaves the servers of all these clients at once, and waits for each until the deadline. Then each
+/// of them has ended and answers nothing, whether or not its server has kept that it left. One that
+/// has not joined has nothing, and its server may be gone: it is not waited for so long.
+pub(crate) fn leave_all(clients: &[&Arc<ShardClient>], end: Instant) {
+    let soon = end.min(Instant::now() + NOT_JOINED);
+    let begin = |client: &&Arc<ShardClient>| {
+        let has_joined = client.link().with_state(|state| state.has_joined());
+        (client.link().begin(State::leave), if has_joined { end } else { soon })
+    };
+    let leaving: Vec<_> = clients.iter().map(begin).collect();
+    for (client, (leaving, end)) in clients.iter().zip(leaving) {
+        if client.link().finish(leaving, end).is_ok() {
+            client.end(end);
+        }
+    }
+    for client in clients {
+        client.link().with_state(State::end_unanswered);
+        client.end_by(Instant::now());
     }
 }

@@ -2,9 +2,9 @@
 //! now.
 use crate::call::error::{Error, JoinError, JoinErrorKind};
 use crate::client::alarm::Alarm;
-use crate::client::joined::{Joined, leave_all};
+use crate::client::joined::Joined;
 use crate::client::joining_shards::JoiningShards;
-use crate::client::shard_client::ShardClient;
+use crate::client::shard_client::{ShardClient, leave_all};
 use crate::client::state::State;
 use crate::client::timeout::Timeout;
 use crate::client::waiting::Waiting;

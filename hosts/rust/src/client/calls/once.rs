@@ -1,12 +1,10 @@
-//! The calls of clients and pins, made once: at one server, or by one map. [`crate::client::calls`]
-//! makes them again by the next map.
+//! Calls that are made once: at one server, or by one map.
+use super::Calls;
 use crate::call::error::{Error, ErrorKind};
 use crate::call::mutation::{BatchError, Judged, Mutation};
-use crate::client::joined::Joined;
 use crate::client::link::{Awaited, Link};
 use crate::client::pinned::Pinned;
 use crate::client::state::{Asked, Held, PATIENCE, Purpose, State};
-use crate::client::table::Table;
 use crate::client::waiting::{Waited, Waiting};
 use crate::model::change::{Outcome, Write};
 use crate::model::row::Row;
@@ -14,27 +12,16 @@ use crate::proved::partition::Part;
 use crate::shards::batch::Spread;
 use std::future::{Future, poll_fn};
 use std::ops::Range;
-use std::sync::Arc;
 use std::task::Poll;
 use std::time::{Duration, Instant};
 
 /// How long a task waits until the thread of a client that has left has ended.
 const SOON: Duration = Duration::from_millis(100);
 
-/// Calls that are made once, by one map, and end by a deadline.
-pub(crate) struct Attempt<'c> {
-    pub table: &'c Arc<Table>,
-    pub joined: Arc<Joined>,
-    /// The pin to which the writes are bound.
-    pub pin: Option<&'c Pinned>,
-    pub end: Instant,
-    pub waiting: Waiting,
-}
-
 /// The rows of a range, and what is pinned of it.
 pub(crate) type Taken = Result<(Vec<Row>, Pinned), Error>;
 
-impl Attempt<'_> {
+impl Calls<'_> {
     fn ask<T>(&self, shard: usize, ask: impl FnOnce(&mut State) -> Asked<T>) -> Awaited<T> {
         Awaited::begin(self.joined.link(shard), self.end, ask)
     }
@@ -64,7 +51,7 @@ impl Attempt<'_> {
     }
 
     /// The rows of a range that the caches do not know.
-    pub async fn read(&self, keys: Range<u64>) -> Result<Vec<Row>, Error> {
+    pub(super) async fn read_by_map(&self, keys: Range<u64>) -> Result<Vec<Row>, Error> {
         if self.joined.is_one() {
             return Ok(self.answer(self.ask(0, |state| state.read(keys))).await?);
         }
@@ -89,13 +76,25 @@ impl Attempt<'_> {
         }
     }
 
+    /// The rows of the range, as the stores of its shards have them, each at a moment of its own. The
+    /// caches keep nothing of it.
+    pub(super) async fn read_once_by_map(&self, keys: Range<u64>) -> Result<Vec<Row>, Error> {
+        let mut rows = Vec::new();
+        for Part { shard, keys } in self.joined.parts(&keys)? {
+            let client = self.joined.client(shard);
+            let part = client.read_once(keys, self.end, self.waiting).await;
+            rows.extend(part.map_err(self.joined.error_at(shard))?);
+        }
+        Ok(rows)
+    }
+
     /// Asks for all parts at once, and waits until each was known at some moment.
     async fn fetch(&self, parts: &[Part]) -> Result<(), Error> {
         self.ask_all(parts, State::read).await.map(drop)
     }
 
     /// Reads the range and pins it for this.
-    pub async fn hold(&self, keys: Range<u64>, purpose: Purpose) -> Taken {
+    pub(super) async fn hold_by_map(&self, keys: Range<u64>, purpose: Purpose) -> Taken {
         if keys.is_empty() {
             return Err(ErrorKind::BadRange.into());
         }
@@ -163,7 +162,7 @@ impl Attempt<'_> {
         }
     }
 
-    pub async fn write(&self, write: Write) -> Result<Outcome, Error> {
+    pub(super) async fn write_by_map(&self, write: Write) -> Result<Outcome, Error> {
         let (shard, pin) = self.place_of(write.key())?;
         let asked = self.ask(shard, |state| match pin {
             None => state.write(write),
@@ -173,7 +172,7 @@ impl Attempt<'_> {
     }
 
     /// Gives a key a value, whether or not it has a row.
-    pub async fn set(&self, row: Row) -> Result<Outcome, Error> {
+    pub(super) async fn set_by_map(&self, row: Row) -> Result<Outcome, Error> {
         let (shard, pin) = self.place_of(row.key)?;
         let asked = self.ask(shard, |state| ask_to_write(state, pin, vec![Mutation::Set(row)]));
         let judged = self.answer(asked).await.and_then(Judged::only);
@@ -182,7 +181,10 @@ impl Attempt<'_> {
 
     /// Makes the writes at all shards at once, those of a shard one after the other. A void pin is
     /// refused also without a write.
-    pub async fn write_all(&self, writes: Vec<Mutation>) -> Result<Vec<Outcome>, BatchError> {
+    pub(super) async fn write_all_by_map(
+        &self,
+        writes: Vec<Mutation>,
+    ) -> Result<Vec<Outcome>, BatchError> {
         let mut spread = Spread::new(&writes, |key| self.place_of(key))?;
         if let Some(pinned) = self.pin.filter(|_| writes.is_empty()) {
             pinned.parts().for_each(|(shard, pin)| spread.add_none(shard, pin));
@@ -200,7 +202,7 @@ impl Attempt<'_> {
     }
 
     /// Gives back what the client holds of the range.
-    pub async fn forget(&self, keys: Range<u64>) -> Result<(), Error> {
+    pub(super) async fn forget_by_map(&self, keys: Range<u64>) -> Result<(), Error> {
         if keys.is_empty() {
             return Ok(());
         }
@@ -211,7 +213,7 @@ impl Attempt<'_> {
     }
 
     /// Waits until the client no longer knows that the range has these rows, at any shard. It waits
-    /// as a task does.
+    /// as a task does. When a shard of the range changes the client knows nothing there.
     pub async fn wait_for_change(&self, keys: Range<u64>, rows: &[Row]) -> Result<Waited, Error> {
         let parts = self.joined.parts(&keys)?;
         if parts.is_empty() || rows.iter().any(|row| !keys.contains(&row.key)) {
@@ -229,7 +231,7 @@ impl Attempt<'_> {
     }
 
     /// Leaves all shards at once, and waits for each until the deadline.
-    pub async fn leave(&self) -> Result<(), Error> {
+    pub(super) async fn leave_by_map(&self) -> Result<(), Error> {
         let begin = |(shard, _)| (shard, self.ask(shard, State::leave));
         let leaving: Vec<_> = self.joined.clients().map(begin).collect();
         let mut left = Ok(());
