@@ -1,9 +1,8 @@
 //! krl: a server over SQLite, and clients of the library `krl`.
 use crate::system::{self, Caching, Connection, Done, Found, System, Table, until_ready};
-use krl::{
-    Address, Change, Client, Listener, Outcome, Reach, Room, Row, Server, SqliteStore, Store,
-    Value, Write,
-};
+use krl::{Address, Client, Listener, Outcome, Row, Server, SqliteStore, Value};
+use krl::operate::{Reach, Room};
+use krl::store::{Change, Store, Write};
 use std::ops::Range;
 use std::path::{Path, PathBuf};
 

@@ -1,7 +1,8 @@
 //! How a cache is opened, as C asks for it.
 use crate::code::Code;
 use crate::fault::Fault;
-use krl::{TableName, TlsConfig};
+use krl::TlsConfig;
+use krl::operate::TableName;
 use krl_cache::{Cache, CacheBuilder, PostgresAddress};
 use krl_ffi::{Versioned, text};
 use std::error::Error;

@@ -1,5 +1,6 @@
 //! What a call returns.
-use krl::{ErrorKind, Fate, JoinErrorKind, LockFileError, Outcome};
+use krl::error::{Fate, LockFileError};
+use krl::{ErrorKind, JoinErrorKind, Outcome};
 
 krl_ffi::codes! {
     Ok = 0, c"KRLC_OK";
@@ -124,13 +125,14 @@ impl From<&JoinErrorKind> for Code {
 #[cfg(test)]
 mod tests {
     use super::*;
-    use krl::{Code as LibraryCode, Error, Unsent};
+    use krl::Error;
+    use krl::error::{Code as LibraryCode, Unsent};
 
     #[test]
     fn a_write_is_unknown_exactly_where_the_crate_calls_it_so() {
         let kinds = [
             ErrorKind::TimedOut,
-            ErrorKind::Unserved(krl::Refusal::Denied),
+            ErrorKind::Unserved(krl::error::Refusal::Denied),
             ErrorKind::NotSent(Unsent::TimedOut),
             ErrorKind::NotSent(Unsent::StoreWentBack),
             ErrorKind::NotSent(Unsent::Stopped),

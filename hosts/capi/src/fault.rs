@@ -128,10 +128,10 @@ mod tests {
     #[test]
     fn a_fault_has_the_reason_of_the_server() {
         let of_join = |kind: JoinErrorKind| Fault::from(JoinError::from(kind));
-        let unserved = ErrorKind::Unserved(krl::Refusal::Denied);
+        let unserved = ErrorKind::Unserved(krl::error::Refusal::Denied);
         assert_eq!(Fault::from(unserved).written().reason, 6);
         assert_eq!(of_join(JoinErrorKind::Refused(unserved)).written().reason, 6);
-        let full = krl::Refusal::Full { connections: 2 };
+        let full = krl::error::Refusal::Full { connections: 2 };
         assert_eq!(of_join(JoinErrorKind::Unserved(full)).written().reason, 3);
         assert_eq!(Fault::from(ErrorKind::TimedOut).written().reason, -1);
         assert_eq!(Fault::misuse("").written().reason, -1);

@@ -1,6 +1,7 @@
 //! Why a server does not serve a client, as a `krlc_reason` of the header: the number that the
 //! reason has on the wire.
-use krl::{ErrorKind, JoinErrorKind, Refusal, Unsent};
+use krl::error::{Refusal, Unsent};
+use krl::{ErrorKind, JoinErrorKind};
 
 /// There is no reason.
 pub const NO_REASON: i32 = -1;

@@ -1,6 +1,7 @@
 //! What a client shows of its servers.
 use crate::fault::Fault;
-use krl::{Client, ShardStatus};
+use krl::Client;
+use krl::operate::ShardStatus;
 use std::time::Duration;
 
 /// A lease that does not end.

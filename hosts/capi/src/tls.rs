@@ -2,7 +2,9 @@
 use crate::code::Code;
 use crate::fault::Fault;
 use crate::options::TlsTexts;
-use krl::{ClientBuilder, Reader, Servers, TableName, TlsConfig, TlsError};
+use krl::error::TlsError;
+use krl::operate::TableName;
+use krl::{ClientBuilder, Reader, Servers, TlsConfig};
 use std::error::Error;
 
 /// What was read of the files, if there are some.

@@ -2,7 +2,8 @@
 use crate::code::Code;
 use crate::fault::Fault;
 use crate::input::{GivenRow, row_of};
-use krl::{BatchError, Fate, Mutation, Outcome};
+use krl::error::Fate;
+use krl::{BatchError, Mutation, Outcome};
 use std::slice;
 
 /// The most writes of a call: this many fit into memory.

@@ -1,6 +1,7 @@
 //! Why a command did not do what it should, and the exit status that reports it.
 use crate::output;
-use krl::{Error, ErrorKind, JoinErrorKind, LockFileError, Refusal, Unsent};
+use krl::error::{LockFileError, Refusal, Unsent};
+use krl::{Error, ErrorKind, JoinErrorKind};
 use krl_cli::{BROKEN_PIPE, BadFile, BadValue};
 use std::fmt;
 use std::io;

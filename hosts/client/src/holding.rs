@@ -2,7 +2,8 @@
 use crate::commands::Context;
 use crate::failure::{Failure, SIGNALLED};
 use crate::signals::Taken;
-use krl::{Client, ShardStatus};
+use krl::Client;
+use krl::operate::ShardStatus;
 use nix::errno::Errno;
 use nix::sys::wait::{Id, WaitPidFlag, waitid};
 use nix::unistd::Pid;

@@ -1,9 +1,8 @@
 //! Measurements, run by hand: a server over SQLite and its clients in one process, over TCP on this
 //! machine.
 use crate::Found;
-use krl::{
-    Address, Change, Client, Listener, Outcome, Row, Server, SqliteStore, Store, Value, Write,
-};
+use krl::store::{Change, Store, Write};
+use krl::{Address, Client, Listener, Outcome, Row, Server, SqliteStore, Value};
 use std::error::Error;
 use std::ops::Range;
 use std::path::Path;

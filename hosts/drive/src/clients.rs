@@ -3,7 +3,7 @@
 use crate::history::{History, Tally};
 use crate::log::{Note, notes};
 use crate::nodes::{ASKER, READERS, WRITERS, end_file};
-use krl::Snapshot;
+use krl::store::Snapshot;
 use std::collections::BTreeMap;
 use std::error::Error;
 use std::path::{Path, PathBuf};

@@ -12,7 +12,7 @@ use crate::machines::Machines;
 use crate::nodes::WRITERS;
 use crate::site::Site;
 use crate::stand_bys::{ClientLeases, LEASE, StandBys};
-use krl::Store;
+use krl::store::Store;
 use krl_etcd::{Credentials, EtcdStore};
 use krl_testing::etcd_relay::Holds;
 use std::collections::BTreeMap;

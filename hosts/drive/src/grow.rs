@@ -2,7 +2,8 @@
 //! and how long calls take at another shard meanwhile.
 use crate::Found;
 use crate::resharded::{Change, ShardServer, Table};
-use krl::{Client, KeptShard, Outcome, Shard, ShardMap, Snapshot, SqliteStore, Value};
+use krl::store::{KeptShard, Snapshot};
+use krl::{Client, Outcome, Shard, ShardMap, SqliteStore, Value};
 use std::error::Error;
 use std::num::NonZeroU64;
 use std::path::Path;

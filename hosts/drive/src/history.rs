@@ -5,7 +5,8 @@
 //! before the read ended. A write that is never answered, since its client was killed, may have
 //! changed the table or not.
 use crate::log::Note;
-use krl::{Snapshot, Value};
+use krl::Value;
+use krl::store::Snapshot;
 use std::collections::HashMap;
 
 #[derive(Clone, Copy, Debug)]

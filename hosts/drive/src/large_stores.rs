@@ -4,8 +4,11 @@
 use crate::Found;
 use crate::cluster::Cluster;
 use crate::site::Site;
-use krl::{Address, Change, Client, Listener, Outcome, Room, Row, Server, Snapshot};
-use krl::{SqliteStore, Store, Value, Write};
+use krl::operate::Room;
+use krl::store::{Change, Snapshot};
+use krl::store::{Store, Write};
+use krl::{Address, Client, Listener, Outcome, Row, Server};
+use krl::{SqliteStore, Value};
 use krl_etcd::{Credentials, EtcdStore};
 use krl_postgres::{PostgresAddress, PostgresStore};
 use krl_testing::database::Database;

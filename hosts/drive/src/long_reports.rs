@@ -2,7 +2,8 @@
 //! client, and nobody may wait longer because one of them has no order.
 use crate::Found;
 use crate::strangers::HOST_HELLO;
-use krl::{Address, Client, Listener, MemoryStore, Record, Server, Snapshot, Value};
+use krl::store::{Record, Snapshot};
+use krl::{Address, Client, Listener, MemoryStore, Server, Value};
 use std::error::Error;
 use std::io::Write;
 use std::net::{SocketAddr, TcpStream};

@@ -3,9 +3,10 @@ use crate::Found;
 use crate::certificates;
 use crate::log::{Log, Note, now};
 use crate::unsynced::UnsyncedStore;
+use krl::store::Store;
 use krl::{
     Access, Address, Client, ClientBuilder, JoinError, Leases, Listener, Outcome, Reader, Row,
-    Server, Servers, SqliteStore, Store, Value,
+    Server, Servers, SqliteStore, Value,
 };
 use std::error::Error;
 use std::ops::Range;

@@ -1,7 +1,8 @@
 //! What a longer reach of a server saves a reader, and what it costs a writer, run by hand: servers
 //! of several reaches in one process, by turns, so that a busy machine is as busy for each.
 use crate::Found;
-use krl::{Client, Listener, MemoryStore, Reach, Row, Server, Value};
+use krl::operate::Reach;
+use krl::{Client, Listener, MemoryStore, Row, Server, Value};
 use std::error::Error;
 use std::fs;
 use std::ops::Range;

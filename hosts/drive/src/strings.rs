@@ -122,8 +122,8 @@ impl Table {
         let opened = unsafe {
             ffi::krl_server_open(
                 &raw mut server,
-                krl::Room::default().rows(),
-                krl::Reach::MAX.slots(),
+                krl::operate::Room::default().rows(),
+                krl::operate::Reach::MAX.slots(),
                 0,
                 ptr::null(),
                 0,

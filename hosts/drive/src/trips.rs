@@ -1,9 +1,8 @@
 //! What a message and its answer take, run by hand: next to an echo over the same kind of socket,
 //! by turns, so that a busy machine is as busy for both.
 use crate::Found;
-use krl::{
-    Address, Change, Client, Listener, MemoryStore, Outcome, Row, Server, Store, Value, Write,
-};
+use krl::store::{Change, Store, Write};
+use krl::{Address, Client, Listener, MemoryStore, Outcome, Row, Server, Value};
 use std::error::Error;
 use std::fs;
 use std::io::Read;

@@ -1,7 +1,8 @@
 //! A store that is wrong: it reports that changes are kept before they are on the disk. What it has
 //! not written yet is lost with its process, as a disk's own memory is with the power. Each drive
 //! over it has to find something wrong.
-use krl::{Change, Snapshot, SqliteStore, Store, StoreError};
+use krl::SqliteStore;
+use krl::store::{Change, Snapshot, Store, StoreError};
 
 /// How many batches wait until they are written together.
 const BATCHES: u32 = 40;

@@ -1,5 +1,7 @@
 //! Rows in etcd: many in one key, so that a full table is loaded in a moment.
-use krl::{Room, Value, Write};
+use krl::Value;
+use krl::operate::Room;
+use krl::store::Write;
 use std::collections::BTreeMap;
 
 /// The fewest buckets of a store. A table that fills the standard room has 64 rows in each, some

@@ -2,7 +2,7 @@
 use crate::address::{Credentials, EtcdAddress};
 use crate::explain::{self, Given};
 use crate::request::{self, bytes_of, text_of};
-use krl::fence::Failure;
+use krl::store::fence::Failure;
 use native_tls::{Certificate, Identity, TlsConnector};
 use serde_json::{Value as Json, json};
 use std::fmt;

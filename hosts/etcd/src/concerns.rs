@@ -1,7 +1,7 @@
 //! What an operator should know of a cluster before a server relies on it.
 use crate::call::Etcd;
 use crate::request::{self, number_of};
-use krl::fence::Failure;
+use krl::store::fence::Failure;
 use serde_json::json;
 use std::time::{Duration, Instant};
 

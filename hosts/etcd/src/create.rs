@@ -6,8 +6,8 @@ use crate::head::Head;
 use crate::request;
 use crate::table::{OTHERS, Table, bucket_key};
 use crate::transaction::{self, Set, parts};
-use krl::fence::{self, Failure, Fence};
-use krl::{Snapshot, StoreError};
+use krl::store::fence::{self, Failure, Fence};
+use krl::store::{Snapshot, StoreError};
 use serde_json::{Value as Json, json};
 use std::time::{Duration, Instant};
 
@@ -172,7 +172,7 @@ mod tests {
         create(&address, &credentials, &Snapshot::default()).unwrap();
         assert!(earlier.set(&[set]).is_err());
         let mut store = crate::EtcdStore::open(&address, &credentials).unwrap();
-        let loaded = krl::Store::load(&mut store).unwrap();
+        let loaded = krl::store::Store::load(&mut store).unwrap();
         assert_eq!(Snapshot { first_start: None, ..loaded }, Snapshot::default());
     }
 }

@@ -6,7 +6,7 @@ use crate::address::{Credentials, EtcdAddress};
 use crate::call::Etcd;
 use crate::explain;
 use crate::request::{self, number_of, text_of};
-use krl::fence::Failure;
+use krl::store::fence::Failure;
 use serde_json::json;
 use std::fmt;
 use std::sync::mpsc::{Receiver, RecvTimeoutError, Sender, channel};

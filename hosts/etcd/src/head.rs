@@ -1,6 +1,6 @@
 //! The head: one key that every transaction compares, and sets again.
 use crate::bucket;
-use krl::fence::Fence;
+use krl::store::fence::Fence;
 use std::fmt;
 use std::str::FromStr;
 

@@ -1,5 +1,5 @@
 //! What etcd has of leases.
-use krl::{ClientSet, LeaseRecord};
+use krl::store::{ClientSet, LeaseRecord};
 
 /// The record as text: `LONGEST UNLEASED`, nanoseconds and a number in hexadecimal digits, in which
 /// the bit of value 2^n stands for client n.

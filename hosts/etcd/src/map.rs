@@ -2,7 +2,7 @@
 use crate::address::{Credentials, EtcdAddress};
 use crate::call::Etcd;
 use crate::request::{self, number_of};
-use krl::StoreError;
+use krl::store::StoreError;
 use serde_json::json;
 use std::thread;
 use std::time::{Duration, Instant};
@@ -99,7 +99,7 @@ impl EtcdMap {
 mod tests {
     use super::*;
     use crate::EtcdStore;
-    use krl::{Snapshot, Store};
+    use krl::store::{Snapshot, Store};
     use krl_testing::cluster::Cluster;
 
     const LONG: Duration = Duration::from_secs(60);

@@ -1,5 +1,6 @@
 //! A client's record in etcd.
-use krl::{Outcome, Record};
+use krl::Outcome;
+use krl::store::Record;
 
 /// How an outcome is written.
 const OUTCOMES: [(Outcome, &str); 5] = [

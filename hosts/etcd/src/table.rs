@@ -3,8 +3,9 @@ use crate::bucket::{self, Buckets};
 use crate::head::Head;
 use crate::transaction::Set;
 use crate::{lease, record};
-use krl::fence::Failure;
-use krl::{Change, KeptShard, LeaseRecord, Record, Room, Snapshot};
+use krl::operate::Room;
+use krl::store::fence::Failure;
+use krl::store::{Change, KeptShard, LeaseRecord, Record, Snapshot};
 use std::fmt::Display;
 use std::str::FromStr;
 

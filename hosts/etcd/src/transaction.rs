@@ -3,7 +3,7 @@ use crate::bucket::{self, Bucket};
 use crate::call::Etcd;
 use crate::head::Head;
 use crate::request;
-use krl::fence::Failure;
+use krl::store::fence::Failure;
 use serde_json::{Value as Json, json};
 use std::collections::{BTreeMap, BTreeSet};
 use std::time::Instant;

@@ -1,7 +1,8 @@
 //! Calls that come late, and starts that cross. They start a node of etcd, and a relay holds back
 //! calls to it.
-use krl::store_tests::{REGISTER, is_deposed, put};
-use krl::{Change, Store, StoreError, Value};
+use krl::Value;
+use krl::store::store_tests::{REGISTER, is_deposed, put};
+use krl::store::{Change, Store, StoreError};
 use krl_etcd::{Credentials, EtcdAddress, EtcdStore};
 use krl_testing::cluster::Cluster;
 use krl_testing::deaf_relay::DeafRelay;

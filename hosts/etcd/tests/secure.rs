@@ -1,6 +1,6 @@
 //! Clusters that want TLS, certificates, or a user and the password. They start a node of etcd, and
 //! make certificates by openssl.
-use krl::{Change, Store, StoreError};
+use krl::store::{Change, Store, StoreError};
 use krl_etcd::{Credentials, Election, EtcdAddress, EtcdStore};
 use krl_testing::authority::Authority;
 use krl_testing::cluster::Cluster;

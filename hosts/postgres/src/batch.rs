@@ -1,7 +1,7 @@
 //! What one commit changes, as columns of the tables.
-use krl::{
-    Change, KeptShard, LeaseRecord, Outcome, Record, Room, ShardBounds, Snapshot, Value, Write,
-};
+use krl::operate::Room;
+use krl::store::{Change, KeptShard, LeaseRecord, Record, ShardBounds, Snapshot, Write};
+use krl::{Outcome, Value};
 use std::collections::{BTreeMap, BTreeSet};
 use std::num::NonZeroU64;
 

@@ -1,6 +1,6 @@
 //! The head: the one row that every commit compares, and sets again. It is the fence, and a format.
 use crate::store::strange;
-use krl::fence::{Failure, Fence};
+use krl::store::fence::{Failure, Fence};
 use std::ops::RangeInclusive;
 use tokio_postgres::Row;
 

@@ -3,7 +3,7 @@ use crate::batch::{self, Batch};
 use crate::connector::{Carrier, Connector};
 use crate::head::{fence_of, owner_text};
 use crate::sql;
-use krl::fence::{Failure, Fence};
+use krl::store::fence::{Failure, Fence};
 use std::thread;
 use std::time::{Duration, Instant};
 use tokio::runtime::{Builder, Runtime};

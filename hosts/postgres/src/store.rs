@@ -4,10 +4,11 @@ use crate::batch::{self, Batch};
 use crate::connector::Connector;
 use crate::head::{fence_of, no_fence};
 use crate::link::{Link, Stored};
-use krl::fence::{Failure, Fence, Ownership};
-use krl::{
-    Change, ClientSet, History, KeptShard, LeaseRecord, Mark, Room, Snapshot, Store, StoreError,
-    Value,
+use krl::Value;
+use krl::operate::Room;
+use krl::store::fence::{Failure, Fence, Ownership};
+use krl::store::{
+    Change, ClientSet, History, KeptShard, LeaseRecord, Mark, Snapshot, Store, StoreError,
 };
 use std::fmt;
 use std::ops::Range;
@@ -255,7 +256,7 @@ fn entry(row: &Row) -> Result<(u64, Value), Failure> {
     key.zip(value).ok_or_else(|| strange("entry"))
 }
 
-fn record(row: &Row) -> Result<krl::Record, Failure> {
+fn record(row: &Row) -> Result<krl::store::Record, Failure> {
     let mut fields = [0; 5];
     for (at, field) in fields.iter_mut().enumerate() {
         *field = row.try_get(at).map_err(|_| strange("client"))?;

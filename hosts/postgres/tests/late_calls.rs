@@ -1,7 +1,8 @@
 //! Commits that wait for each other, that come late, and whose answers get lost. They start a
 //! server of PostgreSQL.
-use krl::store_tests::{REGISTER, is_deposed, put};
-use krl::{Change, Store, StoreError, Value};
+use krl::Value;
+use krl::store::store_tests::{REGISTER, is_deposed, put};
+use krl::store::{Change, Store, StoreError};
 use krl_postgres::{PostgresAddress, PostgresStore};
 use krl_testing::database::{Database, address_at};
 use krl_testing::deaf_relay::DeafRelay;

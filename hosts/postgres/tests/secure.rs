@@ -1,5 +1,5 @@
 //! TLS to the database. They start a server of PostgreSQL.
-use krl::{Change, Store};
+use krl::store::{Change, Store};
 use krl_postgres::{PostgresAddress, PostgresStore};
 use krl_testing::authority::Authority;
 use krl_testing::database::Database;

@@ -133,7 +133,7 @@ use std::time::Duration;
 /// and has joined what is in its place by the next: so no call is made by two maps, and a scan is
 /// of one. A pin no longer holds at a shard that has changed.
 ///
-/// [`Refusal::OtherStore`]: crate::Refusal::OtherStore
+/// [`Refusal::OtherStore`]: crate::error::Refusal::OtherStore
 #[derive(Clone)]
 pub struct Client {
     table: Arc<Table>,

@@ -11,10 +11,11 @@
 //! | use several servers, each with a part of the keys | [`ShardMap`] |
 //! | run a server | [`Server::start`], [`ServerBuilder`], [`Listener`] |
 //! | decide who may connect, and for which clients | [`Access`], [`Identity`] |
-//! | bring a store of your own | [`Store`] |
+//! | bring a store of your own | [`store`] |
 //! | see what a server does, and who holds a range | [`Server::monitor`], [`operate`] |
 //! | back up, check and cut a store's file | [`operate`] |
 //! | serve a port of your own next to a server's | [`operate`] |
+//! | name why something was refused | [`error`] |
 //!
 //! The protocol's rules are the library's, `krl_embed`, whose functions are proved. This crate is
 //! the host around it: it has the sockets, the threads and the disk. Nothing of it is proved.
@@ -51,6 +52,7 @@
 mod access;
 mod call;
 mod client;
+pub mod error;
 mod ffi;
 #[cfg_attr(not(any(feature = "tls", test)), expect(dead_code, reason = "only TLS reads names"))]
 mod identity;
@@ -68,61 +70,33 @@ mod shards;
 #[cfg(feature = "sans-io")]
 #[doc(hidden)]
 pub mod simulated;
-mod store;
+pub mod store;
 mod wire;
 
 pub use access::Access;
-pub use call::error::{Error, ErrorKind, JoinError, JoinErrorKind, LockFileError, Unsent};
-pub use call::mutation::{BatchError, Fate, Mutation};
+pub use call::error::{Error, ErrorKind, JoinError, JoinErrorKind};
+pub use call::mutation::{BatchError, Mutation};
 pub use client::Client;
 pub use client::asynchronous::{AsyncChanges, AsyncClient, AsyncPin};
 pub use client::builder::ClientBuilder;
 pub use client::changes::Changes;
-pub use client::evict::evict;
-pub use client::lock_folder::lock_folder;
 pub use client::pin::Pin;
 pub use client::place::Place;
 pub use client::reader::Reader;
-pub use client::status::ShardStatus;
 pub use client::waiting::Waited;
-pub use identity::{BadIdentity, BadTableName, Identity, TableName};
-pub use lease::terms::{BadLeases, LeaseLeft, Leases};
-pub use model::change::{Change, Outcome, Record, Write};
-pub use model::client_set::ClientSet;
-pub use model::code::Code;
-pub use model::history::{History, Mark};
-pub use model::kept_shard::{KeptShard, NotLater};
-pub use model::lease_record::LeaseRecord;
-pub use model::lock::{HeldSlot, Mode};
-pub use model::reach::{BadReach, Reach};
-pub use model::refusal::Refusal;
-pub use model::room::{BadRoom, Room};
-pub use model::row::{END, MAX_VALUE_BYTES, Row, TooLong, Value};
-pub use model::shard_bounds::{BadShardBounds, ShardBounds};
-pub use model::shard_fence::OtherShard;
-pub use model::snapshot::{NotNeighbors, Snapshot};
-pub use net::address::{Address, BadAddress};
+pub use identity::Identity;
+pub use lease::terms::Leases;
+pub use model::change::Outcome;
+pub use model::row::{END, MAX_VALUE_BYTES, Row, Value};
+pub use net::address::Address;
 pub use net::servers::Servers;
-pub use net::stream::{Listener, PeerAddress};
+pub use net::stream::Listener;
 #[cfg(feature = "tls")]
-pub use net::tls::{Certificate, TlsConfig, TlsError};
-pub use net::unix_peer::UnixPeer;
+pub use net::tls::TlsConfig;
 pub use proved::losses::Tenure;
-pub use proved::partition::Part;
 pub use server::Server;
 pub use server::builder::ServerBuilder;
-pub use server::close_reason::ClosedConnections;
-pub use server::error::ServeError;
-pub use server::shown::monitor::{Monitor, SnapshotError};
-pub use server::shown::status::Status;
-pub use server::shown::watch::{HeldSlots, Wait};
-pub use shards::map::{BadShardMap, Shard, ShardMap};
-#[cfg(feature = "map-file")]
-pub use shards::map_file::BadMapFile;
-#[cfg(feature = "fence")]
-pub use store::fence;
+pub use shards::map::{Shard, ShardMap};
+pub use store::MemoryStore;
 #[cfg(feature = "sqlite")]
-pub use store::sqlite::{LogWrites, SqliteStore};
-#[cfg(feature = "store-tests")]
-pub use store::store_tests;
-pub use store::{MemoryStore, Store, StoreError};
+pub use store::sqlite::SqliteStore;

@@ -1,4 +1,4 @@
-//! What survives a server, and the store that commits it.
+//! What survives a server, and the store that commits it: what a store of your own needs.
 #[cfg(feature = "fence")]
 pub mod fence;
 #[cfg(feature = "sqlite")]
@@ -7,10 +7,17 @@ pub(crate) mod sqlite;
 #[cfg_attr(not(feature = "store-tests"), allow(dead_code, reason = "not each store runs all"))]
 pub mod store_tests;
 
-use crate::model::change::Change;
-use crate::model::history::History;
+pub use crate::model::change::{Change, Record, Write};
+pub use crate::model::client_set::ClientSet;
+pub use crate::model::history::{History, Mark};
+pub use crate::model::kept_shard::KeptShard;
+pub use crate::model::lease_record::LeaseRecord;
+pub use crate::model::shard_bounds::ShardBounds;
+pub use crate::model::snapshot::Snapshot;
+#[cfg(feature = "sqlite")]
+pub use sqlite::LogWrites;
+
 use crate::model::row::Row;
-use crate::model::snapshot::Snapshot;
 use std::fmt;
 use std::time::Duration;
 
@@ -27,7 +34,8 @@ use std::time::Duration;
 /// A store with all parts but a disk. It is shared as a database is, and so compares who commits:
 ///
 /// ```
-/// use krl::{Change, Server, Snapshot, Store, StoreError};
+/// use krl::Server;
+/// use krl::store::{Change, Snapshot, Store, StoreError};
 /// use std::sync::{Arc, Mutex};
 ///
 /// #[derive(Default)]
@@ -117,7 +125,7 @@ pub trait Store: Send {
     /// The longest that a commit or a snapshot of this store may take, even if it then fails.
     /// Meanwhile the server judges at most a few messages, sends nothing that rests on them, and
     /// serves nobody. One whose store takes longer counts as hung: see
-    /// [`Monitor::liveness`](crate::Monitor::liveness). The server asks once, when it starts. By
+    /// [`Monitor::liveness`](crate::operate::Monitor::liveness). The server asks once, when it starts. By
     /// default 30 seconds; `Duration::MAX` means that any time is in order.
     fn longest_wait(&self) -> Duration {
         Duration::from_secs(30)
@@ -169,11 +177,12 @@ impl std::error::Error for StoreError {
 /// `default` is an empty one. One with rows is made of these, or of the snapshot of another store:
 ///
 /// ```
-/// use krl::{MemoryStore, Row, Store, Value};
+/// use krl::{MemoryStore, Row, Value};
+/// use krl::store::Store;
 ///
 /// let mut store: MemoryStore = [Row { key: 15, value: Value::from(5) }].into_iter().collect();
 /// let copy = MemoryStore::from(store.snapshot()?);
-/// # Ok::<(), krl::StoreError>(())
+/// # Ok::<(), krl::store::StoreError>(())
 /// ```
 #[derive(Clone, Debug, Default)]
 pub struct MemoryStore {

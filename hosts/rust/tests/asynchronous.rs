@@ -1,8 +1,9 @@
 //! Calls of a client that are futures, by an executor of 20 lines.
 mod two_servers;
 
+use krl::error::Fate;
 use krl::{
-    Address, AsyncClient, Client, ErrorKind, Fate, MemoryStore, Mutation, Outcome, Server, Servers,
+    Address, AsyncClient, Client, ErrorKind, MemoryStore, Mutation, Outcome, Server, Servers,
     Value, Waited,
 };
 use krl_testing::relay::Relay;

@@ -1,7 +1,8 @@
 //! Several writes in one call, at one server and at several.
 mod two_servers;
 
-use krl::{BatchError, ErrorKind, Fate, Mutation, Unsent};
+use krl::error::{Fate, Unsent};
+use krl::{BatchError, ErrorKind, Mutation};
 use std::time::Duration;
 use two_servers::{World, row};
 

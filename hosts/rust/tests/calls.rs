@@ -1,7 +1,9 @@
 //! Each call of a client, over TCP and over a Unix socket.
+use krl::error::{LockFileError, Unsent};
+use krl::operate::evict;
 use krl::{
-    Address, Client, ErrorKind, JoinErrorKind, Leases, Listener, LockFileError, MemoryStore,
-    Outcome, Row, Server, Servers, Unsent, Value, evict,
+    Address, Client, ErrorKind, JoinErrorKind, Leases, Listener, MemoryStore, Outcome, Row, Server,
+    Servers, Value,
 };
 use std::ops::Range;
 use std::os::unix::net::UnixListener;
@@ -130,7 +132,7 @@ fn a_full_table_takes_no_new_row_and_another_value() {
     let folder = Folder::new("full");
     let listener = Listener::bind(&"127.0.0.1:0".parse().unwrap()).unwrap();
     let builder = Server::builder(listener, MemoryStore::default());
-    let server = builder.room(krl::Room::of(1).unwrap()).start().unwrap();
+    let server = builder.room(krl::operate::Room::of(1).unwrap()).start().unwrap();
     let client = folder.join(&server, 0);
     assert_eq!(client.set(10, value("a")), Ok(Outcome::Applied));
     assert_eq!(client.set(20, value("a")), Ok(Outcome::Full));

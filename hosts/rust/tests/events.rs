@@ -1,6 +1,8 @@
 //! What a server writes to a log in a short life. It is one test, since a process has one log.
 #![cfg(feature = "tracing")]
-use krl::{Change, Client, MemoryStore, Outcome, Server, Store, Value, evict};
+use krl::operate::evict;
+use krl::store::{Change, Store};
+use krl::{Client, MemoryStore, Outcome, Server, Value};
 use std::fmt::{Debug, Write as _};
 use std::io::{Read, Write as _};
 use std::net::{TcpListener, TcpStream};

@@ -1,9 +1,12 @@
 //! The fence between maps: a server of a shard serves clients of that shard only by the same map.
 mod peer;
 
+use krl::error::{Refusal, ServeError};
+use krl::operate::evict;
+use krl::store::{Change, ShardBounds, Snapshot};
 use krl::{
-    Change, Client, Error, ErrorKind, JoinError, JoinErrorKind, MemoryStore, Outcome, Refusal, Row,
-    ServeError, Server, Shard, ShardBounds, ShardMap, Snapshot, Value, evict,
+    Client, Error, ErrorKind, JoinError, JoinErrorKind, MemoryStore, Outcome, Row, Server, Shard,
+    ShardMap, Value,
 };
 use peer::{HELLO, HOST_ANSWER, HOST_HELLO, Peer, frame};
 use std::io::{Read, Write};

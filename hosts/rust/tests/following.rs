@@ -1,7 +1,9 @@
 //! Clients that follow a map whose shards are cut, merged and moved.
+use krl::error::Unsent;
+use krl::store::{KeptShard, Snapshot};
 use krl::{
-    AsyncClient, Client, ErrorKind, JoinErrorKind, KeptShard, Leases, Listener, MemoryStore,
-    Mutation, Outcome, Reader, Row, Server, Servers, Shard, ShardMap, Snapshot, Unsent, Value,
+    AsyncClient, Client, ErrorKind, JoinErrorKind, Leases, Listener, MemoryStore, Mutation,
+    Outcome, Reader, Row, Server, Servers, Shard, ShardMap, Value,
 };
 use std::collections::BTreeMap;
 use std::future::Future;

@@ -1,5 +1,6 @@
 //! Ranges that are read and pinned at once, and waiting for a change.
-use krl::{Client, ErrorKind, Listener, MemoryStore, Outcome, Row, Server, Unsent, Value, Waited};
+use krl::error::Unsent;
+use krl::{Client, ErrorKind, Listener, MemoryStore, Outcome, Row, Server, Value, Waited};
 use std::path::PathBuf;
 use std::sync::atomic::{AtomicUsize, Ordering};
 use std::thread;

@@ -3,9 +3,11 @@ mod network;
 mod peer;
 mod shared_store;
 
+use krl::error::Refusal;
+use krl::operate::evict;
 use krl::{
-    Address, Client, ErrorKind, JoinError, JoinErrorKind, Leases, Listener, Outcome, Refusal, Row,
-    Server, Value, evict,
+    Address, Client, ErrorKind, JoinError, JoinErrorKind, Leases, Listener, Outcome, Row, Server,
+    Value,
 };
 use network::Network;
 use peer::{HELLO, HOST_HELLO, Peer, frame};

@@ -1,7 +1,8 @@
 //! Clones of a client, pins that outlive it, and the one way to leave.
+use krl::error::LockFileError;
 use krl::{
-    Client, ErrorKind, JoinError, JoinErrorKind, LockFileError, MemoryStore, Outcome, Pin, Row,
-    Server, Value, Waited,
+    Client, ErrorKind, JoinError, JoinErrorKind, MemoryStore, Outcome, Pin, Row, Server, Value,
+    Waited,
 };
 use std::net::TcpListener;
 use std::path::PathBuf;

@@ -1,7 +1,9 @@
 //! Who holds what, as a monitor learns it while the server runs.
+use krl::operate::HeldSlot;
+use krl::operate::Mode;
 use krl::operate::{HeldRun, HeldSearch, Locks, LocksError};
-use krl::{Client, END, HeldSlot, Listener, MemoryStore};
-use krl::{Mode, Outcome, Row, Server, Value};
+use krl::{Client, END, Listener, MemoryStore};
+use krl::{Outcome, Row, Server, Value};
 use std::path::PathBuf;
 use std::sync::atomic::{AtomicBool, Ordering};
 use std::thread;

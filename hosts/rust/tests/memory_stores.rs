@@ -1,7 +1,8 @@
 //! The tests that every store has to pass, of stores in memory.
 mod shared_store;
 
-use krl::{MemoryStore, store_tests};
+use krl::MemoryStore;
+use krl::store::store_tests;
 use shared_store::SharedStore;
 
 #[test]

@@ -1,7 +1,10 @@
 //! What a monitor sees of a server: its turns, its measurements and its store.
+use krl::Value;
+use krl::error::SnapshotError;
 use krl::operate::Liveness;
-use krl::{Change, Client, Listener, MemoryStore, Outcome, Server, Snapshot, SnapshotError};
-use krl::{Store, StoreError, Value};
+use krl::store::{Change, Snapshot};
+use krl::store::{Store, StoreError};
+use krl::{Client, Listener, MemoryStore, Outcome, Server};
 use std::path::PathBuf;
 use std::sync::Arc;
 use std::sync::atomic::{AtomicBool, Ordering};

@@ -1,7 +1,8 @@
 //! An earlier copy of the store is brought back while a client lives that has shown who it is.
 mod secure;
 
-use krl::{Access, Address, Client, Listener, Outcome, Row, ServeError, Server, SqliteStore};
+use krl::error::ServeError;
+use krl::{Access, Address, Client, Listener, Outcome, Row, Server, SqliteStore};
 use krl::{TlsConfig, Value};
 use secure::Setup;
 use std::path::PathBuf;

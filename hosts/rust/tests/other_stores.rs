@@ -1,9 +1,10 @@
 //! A client that has seen one store meets the server of another one.
 mod secure;
 
+use krl::error::Refusal;
 use krl::{
-    Access, Address, Client, Error, ErrorKind, Listener, Outcome, Refusal, Row, Server,
-    SqliteStore, TlsConfig, Value,
+    Access, Address, Client, Error, ErrorKind, Listener, Outcome, Row, Server, SqliteStore,
+    TlsConfig, Value,
 };
 use secure::Setup;
 use std::thread;

@@ -1,9 +1,9 @@
 //! Readers, which are no clients: what they return, what they may send, and whom they hold up.
 mod peer;
 
+use krl::error::Refusal;
 use krl::{
-    Address, Client, ErrorKind, JoinErrorKind, MemoryStore, Outcome, Reader, Refusal, Row, Server,
-    Value,
+    Address, Client, ErrorKind, JoinErrorKind, MemoryStore, Outcome, Reader, Row, Server, Value,
 };
 use peer::{HELLO, Peer, frame};
 use std::io::Write;

@@ -1,10 +1,10 @@
 //! A server reports why it does not serve a client, to hosts that take host frames.
 mod peer;
 
-use krl::{
-    Change, Client, ErrorKind, JoinError, JoinErrorKind, MemoryStore, Refusal, Server, Snapshot,
-    Unsent, Value, evict,
-};
+use krl::error::{Refusal, Unsent};
+use krl::operate::evict;
+use krl::store::{Change, Snapshot};
+use krl::{Client, ErrorKind, JoinError, JoinErrorKind, MemoryStore, Server, Value};
 use peer::{HELLO, HOST_ANSWER, HOST_HELLO, Peer, frame, incarnation};
 use std::io::{Read, Write};
 use std::net::{SocketAddr, TcpListener};

@@ -1,9 +1,10 @@
 //! An earlier copy of the store is brought back while a client lives.
 mod peer;
 
+use krl::error::Unsent;
 use krl::{
     Address, Client, ErrorKind, Listener, MemoryStore, Outcome, Reader, Row, Server, SqliteStore,
-    Unsent, Value,
+    Value,
 };
 use peer::{HELLO, Peer, frame};
 use std::path::PathBuf;

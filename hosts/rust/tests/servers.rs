@@ -1,8 +1,7 @@
 //! Servers that are full, and servers that fail.
-use krl::{
-    Address, Change, Client, ErrorKind, History, JoinErrorKind, Listener, Mark, MemoryStore,
-    Refusal, ServeError, Server, Snapshot, Store, StoreError, Value,
-};
+use krl::error::{Refusal, ServeError};
+use krl::store::{Change, History, Mark, Snapshot, Store, StoreError};
+use krl::{Address, Client, ErrorKind, JoinErrorKind, Listener, MemoryStore, Server, Value};
 use std::io::{Read, Write};
 use std::net::{TcpListener, TcpStream};
 use std::path::PathBuf;

@@ -1,7 +1,8 @@
 //! A client of two servers, each with a part of the keys.
+use krl::error::{LockFileError, Unsent};
 use krl::{
-    Client, Error, ErrorKind, JoinErrorKind, Listener, LockFileError, MemoryStore, Outcome, Row,
-    Server, Shard, ShardMap, Unsent, Value, Waited,
+    Client, Error, ErrorKind, JoinErrorKind, Listener, MemoryStore, Outcome, Row, Server, Shard,
+    ShardMap, Value, Waited,
 };
 use std::path::PathBuf;
 use std::thread;

@@ -1,9 +1,11 @@
 //! Certificates, users and strangers.
 mod secure;
 
+use krl::error::Refusal;
+use krl::operate::evict;
 use krl::{
     Access, Address, Client, ErrorKind, Identity, JoinErrorKind, Listener, MemoryStore, Outcome,
-    Refusal, Server, Shard, ShardMap, TlsConfig, Value, evict,
+    Server, Shard, ShardMap, TlsConfig, Value,
 };
 use openssl::ssl::SslVersion;
 use openssl::ssl::{SslConnector, SslConnectorBuilder, SslFiletype, SslMethod, SslVerifyMode};

@@ -1,5 +1,6 @@
 //! How many lock requests it takes to read many rows for the first time, or to hold them.
-use krl::{Client, Listener, MemoryStore, Reach, Row, Server, Value};
+use krl::operate::Reach;
+use krl::{Client, Listener, MemoryStore, Row, Server, Value};
 use std::path::PathBuf;
 use std::thread;
 use std::time::{Duration, Instant};

@@ -17,7 +17,9 @@ pub use status_port::StatusPort;
 pub use store_place::StorePlace;
 pub use value::{Drift, LeaseLength, LogFormat, StatusAddress};
 
-use krl::{Address, LogWrites, Reach, Room, ShardBounds};
+use krl::Address;
+use krl::operate::{Reach, Room};
+use krl::store::{LogWrites, ShardBounds};
 use krl_etcd::Credentials;
 use std::fmt;
 use std::path::PathBuf;

@@ -4,7 +4,8 @@ mod common;
 mod shard_world;
 
 use common::{killer, program};
-use krl::{KeptShard, Outcome, Snapshot, SqliteStore, Value};
+use krl::store::{KeptShard, Snapshot};
+use krl::{Outcome, SqliteStore, Value};
 use krl_testing::database::Database;
 use shard_world::{Engine, World, refused, run, with};
 use std::fs::{self, File};

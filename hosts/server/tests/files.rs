@@ -2,7 +2,9 @@
 mod common;
 
 use common::{Serving, errors, run, text, until};
-use krl::{Outcome, Record, Room, Snapshot, SqliteStore, Value};
+use krl::operate::Room;
+use krl::store::{Record, Snapshot};
+use krl::{Outcome, SqliteStore, Value};
 use std::path::{Path, PathBuf};
 use std::process::{Command, Output};
 use tempfile::TempDir;

@@ -3,7 +3,8 @@
 mod common;
 
 use common::{Serving, errors, killer, program, run, text};
-use krl::{KeptShard, Outcome, Record, Snapshot, SqliteStore, Value};
+use krl::store::{KeptShard, Record, Snapshot};
+use krl::{Outcome, SqliteStore, Value};
 use std::fs;
 use std::ops::Range;
 use std::os::unix::process::ExitStatusExt;

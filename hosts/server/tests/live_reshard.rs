@@ -3,7 +3,8 @@ mod common;
 mod shard_world;
 
 use common::{errors, killer, program, text};
-use krl::{Client, Outcome, ShardMap, Snapshot, Value};
+use krl::store::Snapshot;
+use krl::{Client, Outcome, ShardMap, Value};
 use krl_testing::cluster::Cluster;
 use krl_testing::database::Database;
 use shard_world::{Engine, World, refused, run};

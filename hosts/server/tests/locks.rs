@@ -2,7 +2,8 @@
 mod common;
 
 use common::{Serving, errors, run, text, until};
-use krl::{Client, END, Outcome, Snapshot, SqliteStore, Value};
+use krl::store::Snapshot;
+use krl::{Client, END, Outcome, SqliteStore, Value};
 use serde_json::{Value as Json, json};
 use std::path::Path;
 use std::process::Output;

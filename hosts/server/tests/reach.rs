@@ -2,7 +2,8 @@
 mod common;
 
 use common::{Serving, errors, program, run};
-use krl::{Client, Row, Snapshot, SqliteStore, Value};
+use krl::store::Snapshot;
+use krl::{Client, Row, SqliteStore, Value};
 use std::path::Path;
 use std::time::Duration;
 

@@ -2,7 +2,9 @@
 mod common;
 
 use common::{Serving, errors, output_unless_it_serves, program, run, text};
-use krl::{Client, Outcome, Record, Room, Row, Shard, ShardMap, Snapshot};
+use krl::operate::Room;
+use krl::store::{Record, Snapshot};
+use krl::{Client, Outcome, Row, Shard, ShardMap};
 use krl::{SqliteStore, Value};
 use std::os::unix::fs::symlink;
 use std::path::Path;

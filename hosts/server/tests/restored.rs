@@ -2,7 +2,8 @@
 mod common;
 
 use common::{Serving, errors, run, text, until};
-use krl::{Address, Client, ErrorKind, Outcome, Row, Unsent, Value};
+use krl::error::Unsent;
+use krl::{Address, Client, ErrorKind, Outcome, Row, Value};
 use std::path::Path;
 use std::sync::Barrier;
 use std::sync::atomic::{AtomicBool, Ordering};

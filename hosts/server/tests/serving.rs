@@ -5,7 +5,8 @@ use common::{
     ServiceManager, Serving, errors, join, lock_file, output_unless_it_serves, program,
     program_under_watchdog, run, text, until,
 };
-use krl::{Address, END, Outcome, Row, Snapshot, SqliteStore, Value};
+use krl::store::Snapshot;
+use krl::{Address, END, Outcome, Row, SqliteStore, Value};
 use std::collections::BTreeMap;
 use std::os::unix::process::ExitStatusExt;
 use std::path::Path;

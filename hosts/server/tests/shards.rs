@@ -2,9 +2,8 @@
 mod common;
 
 use common::{Serving, errors, output_unless_it_serves, program, run, text};
-use krl::{
-    Change, Client, JoinError, JoinErrorKind, Outcome, Servers, Snapshot, SqliteStore, Value,
-};
+use krl::store::{Change, Snapshot};
+use krl::{Client, JoinError, JoinErrorKind, Outcome, Servers, SqliteStore, Value};
 use std::path::Path;
 use std::time::Duration;
 

@@ -2,7 +2,8 @@
 use crate::judge::Version;
 use crate::lock_file::LockFile;
 use krl::sans_io::{Cached, Call, Client, Held, Purpose};
-use krl::{Error, Outcome, Row, Value, Write};
+use krl::store::Write;
+use krl::{Error, Outcome, Row, Value};
 use std::ops::Range;
 use std::time::Duration;
 

@@ -1,6 +1,6 @@
 //! The store of the simulated servers: what it keeps survives them.
 use crate::dice::Dice;
-use krl::{Change, History, Mark, Snapshot, Store, StoreError};
+use krl::store::{Change, History, Mark, Snapshot, Store, StoreError};
 
 /// What is on the disk. A server commits in two steps, between which it may be killed: so
 /// [`Disk::keep`] is all that changes it while a server runs.

@@ -3,7 +3,8 @@
 //! A read has to show the table of one moment between its call and its answer; one that the cache
 //! answers, and one of a range that is pinned, show the table of that very moment. A write is made
 //! once at most, and if its answer states that it was, between its call and its answer.
-use krl::{Change, Outcome, Row, Value, Write};
+use krl::store::{Change, Write};
+use krl::{Outcome, Row, Value};
 use std::collections::{BTreeMap, BTreeSet};
 use std::ops::Range;
 use std::rc::Rc;

@@ -1,8 +1,10 @@
 //! What is committed is what is loaded, and who commits. They start a node of etcd.
 use super::*;
 use crate::bucket::Buckets;
-use krl::store_tests::{self, REGISTER, apply, is_deposed, judged, put, row};
-use krl::{Room, Row, Value, Write};
+use krl::operate::Room;
+use krl::store::Write;
+use krl::store::store_tests::{self, REGISTER, apply, is_deposed, judged, put, row};
+use krl::{Row, Value};
 use krl_testing::cluster::Cluster;
 use std::thread;
 

@@ -18,7 +18,7 @@ pub const MAX_VALUE_BYTES: usize = 32;
 /// let (text, number) = (Value::try_from("five")?, Value::from(5));
 /// assert_eq!((text.as_bytes(), number.to_u64()), (&b"five"[..], Some(5)));
 /// assert!(Value::try_from([7u8; 33]).is_err());
-/// # Ok::<(), krl::TooLong>(())
+/// # Ok::<(), krl::error::TooLong>(())
 /// ```
 #[repr(C)]
 #[derive(Clone, Copy)]

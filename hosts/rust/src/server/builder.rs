@@ -64,7 +64,7 @@ impl<S: Store + 'static> ServerBuilder<S> {
     }
 
     /// The most connections that have identified themselves: 256 by default. Each client takes one.
-    /// One more gets [`Refusal::Full`](crate::Refusal::Full), and is closed. Besides, at most 128
+    /// One more gets [`Refusal::Full`](crate::error::Refusal::Full), and is closed. Besides, at most 128
     /// are open that have not identified themselves.
     pub fn max_connections(mut self, count: usize) -> ServerBuilder<S> {
         self.options.max_connections = count;
@@ -157,7 +157,8 @@ impl Server {
     /// # Examples
     ///
     /// ```
-    /// use krl::{Leases, Listener, MemoryStore, Room, Server};
+    /// use krl::{Leases, Listener, MemoryStore, Server};
+    /// use krl::operate::Room;
     /// use std::time::Duration;
     ///
     /// let listener = Listener::bind(&"127.0.0.1:0".parse()?)?;

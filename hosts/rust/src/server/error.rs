@@ -47,7 +47,7 @@ pub enum ServeError {
     },
     /// The store lacks what a client has seen of it: it is an older copy, or another store. The
     /// client has shown who it is, and has been notified. A stranger's claim does not end a server:
-    /// then [`Status::store_alarms`](crate::Status::store_alarms) counts it, and the server
+    /// then [`Status::store_alarms`](crate::operate::Status::store_alarms) counts it, and the server
     /// continues.
     OlderStore {
         /// Who has seen it.

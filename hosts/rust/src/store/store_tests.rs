@@ -5,7 +5,8 @@
 //! test begins with an empty store, and panics if the store does something wrong.
 //!
 //! ```no_run
-//! use krl::{SqliteStore, store_tests};
+//! use krl::SqliteStore;
+//! use krl::store::store_tests;
 //!
 //! store_tests::keeps_what_is_committed(|| SqliteStore::open("table.db").unwrap());
 //! ```

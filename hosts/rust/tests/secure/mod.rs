@@ -1,8 +1,7 @@
 //! A server by TLS, and clients of it, for tests.
 #![allow(dead_code, reason = "each test uses a part of it")]
-use krl::{
-    Access, Address, Client, JoinError, Listener, MemoryStore, Server, Servers, Status, TlsConfig,
-};
+use krl::operate::Status;
+use krl::{Access, Address, Client, JoinError, Listener, MemoryStore, Server, Servers, TlsConfig};
 use krl_testing::certificates::{Authority, Files};
 use std::net::SocketAddr;
 use std::path::PathBuf;

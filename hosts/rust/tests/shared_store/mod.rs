@@ -1,5 +1,6 @@
 //! A store whose contents outlive a server.
-use krl::{Change, MemoryStore, Snapshot, Store, StoreError};
+use krl::MemoryStore;
+use krl::store::{Change, Snapshot, Store, StoreError};
 use std::sync::{Arc, Mutex};
 
 /// A store in memory that is shared by its clones. It does not compare who commits: so one server

@@ -1,5 +1,5 @@
 //! Until when certificates are valid.
-use krl::Certificate;
+use krl::operate::Certificate;
 use std::fmt::Write;
 use std::time::{SystemTime, UNIX_EPOCH};
 

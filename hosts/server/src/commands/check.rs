@@ -2,8 +2,9 @@
 use super::{certificates, stores};
 use crate::process::Done;
 use crate::process::output::{self, numbers};
+use krl::operate::Certificate;
 use krl::operate::Checksum;
-use krl::{Certificate, Record};
+use krl::store::Record;
 use std::fs::{self, File};
 use std::io::{self, Read};
 use std::path::Path;

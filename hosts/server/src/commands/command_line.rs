@@ -124,7 +124,7 @@ rows.")]
         lock_file: PathBuf,
         /// The shard that the server serves, as in its own --shard, if it serves one
         #[arg(long, value_name = "SHARD")]
-        shard: Option<krl::ShardBounds>,
+        shard: Option<krl::store::ShardBounds>,
     },
     /// Have a running server copy its store into a new file
     Backup {

@@ -2,7 +2,8 @@
 use crate::process::Done;
 use crate::process::output;
 use crate::settings::{BadSetting, TlsOptions};
-use krl::{Servers, ShardBounds};
+use krl::Servers;
+use krl::store::ShardBounds;
 use std::path::Path;
 
 /// Evicts the client at the server of this address, and reports it.
@@ -24,7 +25,7 @@ pub fn evict(
     if let Some(shard) = shard {
         servers = servers.of_shard(shard);
     }
-    krl::evict(servers, number, lock_file)?;
+    krl::operate::evict(servers, number, lock_file)?;
     output::report(&format!("client {number} has left"));
     Ok(())
 }

@@ -3,7 +3,8 @@ use super::stores;
 use crate::process::Done;
 use crate::process::output;
 use crate::settings::{BadSetting, StorePlace};
-use krl::{Room, Snapshot};
+use krl::operate::Room;
+use krl::store::Snapshot;
 use krl_cli::{Existing, FileFormat, Line, ValueForm, read_file};
 use std::path::Path;
 

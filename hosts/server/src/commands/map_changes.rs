@@ -1,7 +1,8 @@
 //! The changes of a map that have begun, in a file next to it.
 use crate::process::Done;
 use crate::process::replaced_file::{self, beside};
-use krl::{Shard, ShardBounds, ShardMap};
+use krl::store::ShardBounds;
+use krl::{Shard, ShardMap};
 use serde::{Deserialize, Serialize};
 use std::error::Error;
 use std::fs;

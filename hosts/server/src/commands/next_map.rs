@@ -2,7 +2,8 @@
 use crate::process::Done;
 use crate::process::replaced_file::NextFile;
 use clap::Args;
-use krl::{Address, KeptShard, Servers, Shard, ShardBounds, ShardMap, Snapshot};
+use krl::store::{KeptShard, ShardBounds, Snapshot};
+use krl::{Address, Servers, Shard, ShardMap};
 use std::error::Error;
 use std::io::{self, ErrorKind};
 use std::path::{Path, PathBuf};

@@ -6,7 +6,8 @@ use super::stores::{self, own, read_left};
 use crate::process::Done;
 use crate::process::output::{self, cause};
 use krl::operate::{Checksum, StoreFile};
-use krl::{END, KeptShard, Snapshot, SqliteStore};
+use krl::store::{KeptShard, Snapshot};
+use krl::{END, SqliteStore};
 use std::error::Error;
 use std::path::Path;
 
@@ -186,7 +187,8 @@ pub fn cut(text: &str) -> Result<u64, String> {
 #[cfg(test)]
 mod tests {
     use super::*;
-    use krl::{Record, Value};
+    use krl::Value;
+    use krl::store::Record;
 
     #[test]
     fn only_the_two_stores_of_one_split_are_rejoined() {

@@ -3,7 +3,8 @@ use super::stores;
 use crate::process::Done;
 use crate::process::output;
 use crate::settings::{BadSetting, StorePlace};
-use krl::{END, LeaseRecord, Snapshot};
+use krl::END;
+use krl::store::{LeaseRecord, Snapshot};
 use std::path::Path;
 
 /// How far the epoch of a restored store lies after that of the backup: no server has started this

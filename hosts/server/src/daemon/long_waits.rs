@@ -1,7 +1,7 @@
 //! Clients that wait for a long time, in the log.
 use crate::process::role::{Role, State};
 use crate::status::locks::LONG_WAIT;
-use krl::Wait;
+use krl::operate::Wait;
 use std::collections::BTreeMap;
 use std::io;
 use std::time::Duration;
@@ -81,7 +81,7 @@ mod tests {
 
     fn wait(client: u8, seconds: u64) -> Wait {
         let waited = Duration::from_secs(seconds);
-        Wait::new(client, 15..16, krl::Mode::X, waited, vec![3])
+        Wait::new(client, 15..16, krl::operate::Mode::X, waited, vec![3])
     }
 
     #[test]

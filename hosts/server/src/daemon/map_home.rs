@@ -1,7 +1,7 @@
 //! A map of shards that is at home in etcd or PostgreSQL.
 use crate::process::Done;
 use crate::settings::StorePlace;
-use krl::StoreError;
+use krl::store::StoreError;
 use krl_etcd::{Credentials, EtcdMap};
 use krl_postgres::PostgresMap;
 use std::time::Duration;

@@ -4,7 +4,8 @@ use super::map_home::Home;
 use crate::process::Done;
 use crate::process::role::{Role, State};
 use crate::settings::StorePlace;
-use krl::{ShardBounds, ShardMap};
+use krl::ShardMap;
+use krl::store::ShardBounds;
 use krl_etcd::Credentials;
 use std::time::{Duration, Instant};
 

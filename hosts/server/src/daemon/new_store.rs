@@ -1,6 +1,6 @@
 //! Whether a server may begin a new store.
 use crate::settings::{Settings, StorePlace};
-use krl::{Change, History, Snapshot, Store, StoreError};
+use krl::store::{Change, History, Snapshot, Store, StoreError};
 use std::fs;
 use std::io::ErrorKind;
 use std::path::Path;

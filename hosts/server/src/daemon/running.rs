@@ -2,7 +2,9 @@
 use super::new_store::AskedFor;
 use crate::process::role::Role;
 use crate::settings::Settings;
-use krl::{Access, Listener, ServeError, Server, Store};
+use krl::error::ServeError;
+use krl::store::Store;
+use krl::{Access, Listener, Server};
 use sd_notify::NotifyState;
 use signal_hook::consts::{SIGINT, SIGTERM};
 use signal_hook::flag::{register, register_conditional_shutdown};

@@ -2,7 +2,9 @@
 use super::running::{self, Daemon, Ended, HasFailed};
 use crate::process::Done;
 use crate::process::log::Unanswered;
-use krl::{Listener, ServeError, Store, StoreError};
+use krl::Listener;
+use krl::error::ServeError;
+use krl::store::{Store, StoreError};
 use krl_etcd::{Election, EtcdAddress, EtcdStore, Standing, Term};
 
 /// Stands by, serves, and stands by again, until a signal comes.

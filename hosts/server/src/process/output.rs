@@ -1,5 +1,5 @@
 //! What a command prints.
-use krl::StoreError;
+use krl::store::StoreError;
 use krl_cli::BROKEN_PIPE;
 use std::error::Error;
 use std::fmt;

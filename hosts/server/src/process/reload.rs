@@ -1,5 +1,6 @@
 //! Certificates that are read again on SIGHUP.
-use krl::{Certificate, TlsConfig};
+use krl::TlsConfig;
+use krl::operate::Certificate;
 use signal_hook::consts::SIGHUP;
 use signal_hook::iterator::Signals;
 use std::io;

@@ -1,6 +1,6 @@
 //! What a process does just now: it starts, stands by, or serves.
-use krl::Monitor;
 use krl::operate::Liveness;
+use krl::operate::Monitor;
 use std::fmt;
 use std::io;
 use std::sync::{Arc, Mutex, MutexGuard, PoisonError};

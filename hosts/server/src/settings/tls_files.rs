@@ -1,6 +1,7 @@
 //! The files of TLS, as settings name them.
 use super::{BadSetting, Given, key, value};
-use krl::{TableName, TlsConfig};
+use krl::TlsConfig;
+use krl::operate::TableName;
 use std::path::PathBuf;
 
 /// The files of one side of a connection, as far as they are named, and the table whose names count.

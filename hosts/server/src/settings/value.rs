@@ -1,5 +1,6 @@
 //! The values of settings, as they are written and read.
-use krl::{Address, Identity, Leases, LogWrites};
+use krl::store::LogWrites;
+use krl::{Address, Identity, Leases};
 use std::ops::RangeInclusive;
 use std::str::FromStr;
 use std::time::Duration;

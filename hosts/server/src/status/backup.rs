@@ -1,6 +1,7 @@
 //! A copy of the store of a running server.
 use crate::process::output::cause;
-use krl::{Monitor, SqliteStore};
+use krl::SqliteStore;
+use krl::operate::Monitor;
 use serde::{Deserialize, Serialize};
 use std::error::Error;
 use std::path::PathBuf;

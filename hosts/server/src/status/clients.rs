@@ -1,7 +1,7 @@
 //! Which clients are there: the page on clients as text and as JSON.
 use super::locks;
 use krl::operate::ClientStatus;
-use krl::{LeaseLeft, Status, Wait};
+use krl::operate::{LeaseLeft, Status, Wait};
 use serde_json::{Value, json};
 use std::time::Duration;
 
@@ -143,7 +143,7 @@ fn line(row: &[String; HEADS.len()], widths: &[usize; HEADS.len()]) -> String {
 mod tests {
     use super::*;
     use krl::operate::ClientConnection;
-    use krl::{HeldSlots, Mode, PeerAddress};
+    use krl::operate::{HeldSlots, Mode, PeerAddress};
 
     fn seconds(seconds: f64) -> Duration {
         Duration::from_secs_f64(seconds)

@@ -2,8 +2,9 @@
 use super::paths::LOCKS;
 use crate::process::output::numbers;
 use form_urlencoded::parse;
+use krl::END;
 use krl::operate::Locks;
-use krl::{END, HeldSlot, Wait};
+use krl::operate::{HeldSlot, Wait};
 use serde_json::json;
 use std::ops::{Range, RangeInclusive};
 use std::time::Duration;
@@ -143,7 +144,7 @@ pub fn whom(wait: &Wait) -> String {
 #[cfg(test)]
 mod tests {
     use super::*;
-    use krl::Mode;
+    use krl::operate::Mode;
 
     fn question(points: Range<u64>, limit: usize) -> Question {
         Question { points, limit }

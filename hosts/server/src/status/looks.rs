@@ -4,7 +4,7 @@
 //! each second. So all viewers share one look at each range, which a thread makes again for as long
 //! as somebody asks. After each part of it, that thread pauses for long enough that all looks take
 //! less than one percent of the loop's time.
-use krl::Monitor;
+use krl::operate::Monitor;
 use krl::operate::{HeldPage, HeldRun, HeldSearch, LocksError};
 use std::collections::BTreeMap;
 use std::ops::Range;

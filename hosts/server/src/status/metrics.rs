@@ -3,7 +3,7 @@ use super::backup;
 use super::shown::Shown;
 use crate::process::role::State;
 use crate::process::{log, reload};
-use krl::Certificate;
+use krl::operate::Certificate;
 use std::fmt::Display;
 use std::time::{SystemTime, UNIX_EPOCH};
 

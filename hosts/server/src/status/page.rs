@@ -16,7 +16,7 @@ use super::{backup, report};
 use crate::process::role::State;
 use held_picture::HeldPicture;
 use krl::operate::LocksError;
-use krl::{Monitor, Status};
+use krl::operate::{Monitor, Status};
 use openssl::base64::encode_block;
 use openssl::sha::sha256;
 use overview::Overview;

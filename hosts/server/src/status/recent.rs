@@ -4,7 +4,7 @@
 //! how much of that is new.
 use crate::process::role::State;
 use krl::operate::{Counts, Measured};
-use krl::{Monitor, Status};
+use krl::operate::{Monitor, Status};
 use serde_json::{Value, json};
 use std::collections::VecDeque;
 use std::sync::{Arc, Mutex, MutexGuard, PoisonError};

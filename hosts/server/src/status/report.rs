@@ -2,7 +2,8 @@
 use super::recent::Rates;
 use super::{backup, clients, locks};
 use crate::process::role::State;
-use krl::{HeldSlots, ShardBounds, Status};
+use krl::operate::{HeldSlots, Status};
+use krl::store::ShardBounds;
 use serde::de::IgnoredAny;
 use serde::{Deserialize, Deserializer};
 use serde_json::{Value, json};

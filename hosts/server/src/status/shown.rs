@@ -3,7 +3,8 @@ use super::looks::Looks;
 use super::others::Others;
 use super::recent::Recent;
 use crate::process::role::Role;
-use krl::{ShardBounds, TlsConfig};
+use krl::TlsConfig;
+use krl::store::ShardBounds;
 
 /// The place of a server among those of its table.
 #[derive(Clone, Debug, Default)]

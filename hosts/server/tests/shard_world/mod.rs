@@ -1,7 +1,8 @@
 //! A table of shards, each with a server, over files or in databases, for tests that change the shards.
 #![allow(dead_code, reason = "each test takes what it needs")]
 use crate::common::{errors, program, text};
-use krl::{Client, KeptShard, ShardMap, Snapshot, SqliteStore, Store, Value};
+use krl::store::{KeptShard, Snapshot, Store};
+use krl::{Client, ShardMap, SqliteStore, Value};
 use krl_etcd::{Credentials, EtcdAddress, EtcdStore};
 use krl_postgres::{PostgresAddress, PostgresStore};
 use krl_testing::cluster::Cluster;

@@ -4,8 +4,10 @@ use crate::calls::{self, Ended, Made, Pinned, Waiting, Watched, cached};
 use crate::judge::{Version, Window};
 use crate::record::Node;
 use crate::weather::Ask;
+use krl::error::{Refusal, Unsent};
 use krl::sans_io::{Cached, Held, Purpose};
-use krl::{ClientSet, END, Error, ErrorKind, Outcome, Refusal, Row, Unsent, Value, Write};
+use krl::store::{ClientSet, Write};
+use krl::{END, Error, ErrorKind, Outcome, Row, Value};
 use std::ops::Range;
 use std::time::Duration;
 

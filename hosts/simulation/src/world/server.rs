@@ -5,8 +5,10 @@ use crate::network::Side;
 use crate::record::Node;
 use crate::timer::Timer;
 use crate::weather::{self, Terms};
+use krl::Leases;
+use krl::error::ServeError;
+use krl::operate::Room;
 use krl::simulated::{FrameKind, Next, Sent, Server, Start};
-use krl::{Leases, Room, ServeError};
 use std::collections::BTreeMap;
 use std::time::Duration;
 

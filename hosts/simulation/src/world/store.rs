@@ -1,7 +1,8 @@
 //! What the store does with the commits of servers.
 use super::{Event, World};
 use crate::record::Happened;
-use krl::{Change, Outcome};
+use krl::Outcome;
+use krl::store::Change;
 use std::time::Duration;
 
 /// A server's clock may be behind an incarnation by this much.

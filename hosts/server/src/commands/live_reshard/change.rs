@@ -13,7 +13,7 @@
 use crate::commands::stores;
 use crate::daemon::owner::Owner;
 use crate::process::Done;
-use krl::{Change, KeptShard, Mark, ShardBounds, Snapshot, Store, StoreError};
+use krl::store::{Change, KeptShard, Mark, ShardBounds, Snapshot, Store, StoreError};
 use std::error::Error;
 use std::fmt;
 

@@ -1,5 +1,6 @@
 use super::*;
-use krl::{MemoryStore, Mode, Server};
+use krl::operate::Mode;
+use krl::{MemoryStore, Server};
 use std::net::TcpListener;
 
 fn server() -> Server {

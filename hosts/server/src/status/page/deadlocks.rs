@@ -1,5 +1,5 @@
 //! Which clients wait for each other in a circle.
-use krl::Wait;
+use krl::operate::Wait;
 
 const CLIENTS: usize = 64;
 
@@ -60,7 +60,7 @@ mod tests {
 
     fn deadlocks(waits: &[(u8, &[u8])]) -> Deadlocks {
         let wait = |(client, others): &(u8, &[u8])| {
-            Wait::new(*client, 0..1, krl::Mode::X, Duration::ZERO, others.to_vec())
+            Wait::new(*client, 0..1, krl::operate::Mode::X, Duration::ZERO, others.to_vec())
         };
         Deadlocks::of(&waits.iter().map(wait).collect::<Vec<_>>())
     }

@@ -6,7 +6,7 @@ use super::modes::{self, LEGEND};
 use crate::status::clients::{self, brief, end_in_words, lease_in_words};
 use crate::status::looks::Held;
 use krl::operate::HeldRun;
-use krl::{Status, Wait};
+use krl::operate::{Status, Wait};
 use std::ops::Range;
 use std::time::Duration;
 

@@ -1,5 +1,5 @@
 //! What the modes of locks mean, in words and by colors.
-use krl::Mode;
+use krl::operate::Mode;
 
 /// What a client may do, with the class that gives it its color.
 pub const LEGEND: [(&str, &str); 4] = [

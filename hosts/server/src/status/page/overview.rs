@@ -6,7 +6,7 @@ use crate::status::clients::{self, brief, end_in_words, lease_in_words};
 use crate::status::locks;
 use crate::status::looks::Held;
 use crate::status::recent::{Histograms, Rates};
-use krl::{LeaseLeft, Status, Wait};
+use krl::operate::{LeaseLeft, Status, Wait};
 use std::ops::Range;
 use std::time::Duration;
 

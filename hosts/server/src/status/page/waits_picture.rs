@@ -5,7 +5,7 @@ use super::markup::{Markup, escape, list, number};
 use super::modes;
 use crate::status::clients::brief;
 use crate::status::locks::LONG_WAIT;
-use krl::Wait;
+use krl::operate::Wait;
 
 const WIDTH: f64 = 520.0;
 const ROW: f64 = 36.0;
@@ -121,7 +121,7 @@ mod tests {
 
     fn wait(client: u8, waits_for: &[u8], seconds: u64) -> Wait {
         let waited = Duration::from_secs(seconds);
-        Wait::new(client, 120..121, krl::Mode::X, waited, waits_for.to_vec())
+        Wait::new(client, 120..121, krl::operate::Mode::X, waited, waits_for.to_vec())
     }
 
     #[test]

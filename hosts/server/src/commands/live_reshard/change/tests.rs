@@ -1,6 +1,7 @@
 //! Changes that are cut off after each of their steps, over stores in memory, with servers in between.
 use super::*;
-use krl::{History, Outcome, Row, Value, Write};
+use krl::store::{History, Write};
+use krl::{Outcome, Row, Value};
 use std::collections::BTreeMap;
 use std::sync::{Arc, Mutex, MutexGuard};
 

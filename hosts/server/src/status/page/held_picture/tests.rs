@@ -1,6 +1,7 @@
 use super::*;
+use krl::END;
 use krl::operate::{ClientConnection, ClientStatus};
-use krl::{END, LeaseLeft, Mode, PeerAddress};
+use krl::operate::{LeaseLeft, Mode, PeerAddress};
 
 fn client(client: u8, silent: u64) -> ClientStatus {
     let peer = PeerAddress::Tcp("10.0.0.5:41234".parse().unwrap());

@@ -1,6 +1,6 @@
 use super::*;
 use krl::operate::{ClientStatus, Counts};
-use krl::{Mode, Wait};
+use krl::operate::{Mode, Wait};
 
 fn client(client: u8, lease: LeaseLeft) -> ClientStatus {
     ClientStatus::new(client, lease)
