@@ -301,10 +301,10 @@ class Play:
         line = self._client.stdout.readline()
         if not line:
             fail("the client's program has ended")
-        told = json.loads(line)
+        answer = json.loads(line)
         # A client may have no call for its epoch.
-        has_no_epoch = told == {"epoch": None} and pattern.keys() == {"epoch"}
-        if not has_no_epoch and not self._fits(pattern, told):
+        has_no_epoch = answer == {"epoch": None} and pattern.keys() == {"epoch"}
+        if not has_no_epoch and not self._fits(pattern, answer):
             fail(f"the client's program answers {line.strip()}")
 
     def _greater(self, names: list[str]) -> None:

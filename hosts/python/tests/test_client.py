@@ -372,13 +372,13 @@ class ServersTest(Served):
         self.start_again()
         client.timeout = 0.5
 
-        def is_told() -> bool:
+        def learns_the_reason() -> bool:
             with self.assertRaises(krl.TimedOut) as raised:
                 client.put(5, b"2")
             error = raised.exception
             return isinstance(error, krl.Unserved | krl.NotSent) and error.reason is Reason.MISSING
 
-        until(is_told)
+        until(learns_the_reason)
         krl.evict(self.address, 7, self.lock_file(7))
         client.timeout = PATIENCE
         self.assertEqual(client.put(5, b"3"), Outcome.APPLIED)

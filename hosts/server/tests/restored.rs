@@ -36,7 +36,7 @@ impl Drop for Over<'_> {
 }
 
 /// The restored server has reported what its client had seen.
-fn is_told(serving: &Serving) {
+fn reports_what_was_seen(serving: &Serving) {
     until("the alarm", || serving.sample("krl_store_alarms_total") > 0.0);
     let (status, page) = serving.get("/status");
     assert_eq!(status, 200);
@@ -92,7 +92,7 @@ fn a_client_that_lives_through_a_restore_drops_its_cache_and_joins_again() {
     });
     assert_eq!(client.status()[0].epoch, Ok(4_294_967_298));
     assert_eq!(client.insert(2, Value::from(3)), Ok(Outcome::Applied));
-    is_told(&serving);
+    reports_what_was_seen(&serving);
     client.leave().unwrap();
     serving.signal(&["TERM"]);
     let log = serving.ended().log;

@@ -180,7 +180,7 @@ impl Link {
         lock(&self.lock_file).take();
     }
 
-    /// Tells the thread to end.
+    /// The thread is to end.
     pub fn end(&self) {
         let mut thread = lock(&self.thread);
         if *thread == Thread::Runs {

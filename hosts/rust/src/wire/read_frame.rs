@@ -58,7 +58,7 @@ impl ReadRequest {
     }
 
     /// Whether the page has no rows for it, since another client keeps some of them for itself just
-    /// now. A reader is never told so.
+    /// now. No reader is answered so.
     pub fn is_refused_by(&self, page: &RowPage) -> bool {
         page.number == self.number && page.next == self.lo && page.rows.is_empty()
     }

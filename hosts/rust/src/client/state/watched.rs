@@ -65,7 +65,7 @@ impl State {
         Ok(self.client.status()?.epoch)
     }
 
-    /// Tells those who wait for a change, if there may be one.
+    /// Reports a change to those who wait for one, if there may be one.
     pub(super) fn report_changes(&mut self) {
         if !mem::take(&mut self.watches.is_changed) {
             return;
