@@ -2,7 +2,7 @@
 use crate::address::{Credentials, EtcdAddress};
 use crate::call::Etcd;
 use crate::request::{self, number_of};
-use krl::store::StoreError;
+use krl::store::{MapHome, StoreError};
 use serde_json::json;
 use std::thread;
 use std::time::{Duration, Instant};
@@ -21,20 +21,15 @@ const PAUSE_WITHOUT_EVENT: Duration = Duration::from_millis(200);
 ///
 /// ```no_run
 /// # fn join() -> Result<(), Box<dyn std::error::Error>> {
-/// use krl::{Client, ShardMap};
+/// use krl::{Client, MapHome, ShardMap};
 /// use krl_etcd::{Credentials, EtcdMap};
-/// use std::time::Duration;
 ///
 /// let address = "etcd://10.0.0.1:2379/krl/map".parse()?;
 /// let mut map = EtcdMap::open(&address, &Credentials::default())?;
 /// let first = map.read()?.ok_or("there is no map")?;
 /// let client = Client::join(ShardMap::from_toml(&first)?, 0, "locks")?;
-/// loop {
-///     map.wait(Duration::from_secs(60));
-///     if let Ok(Some(next)) = map.read() {
-///         client.change_map(ShardMap::from_toml(&next)?)?;
-///     }
-/// }
+/// client.follow_at(map)?;
+/// # Ok(())
 /// # }
 /// ```
 #[derive(Debug)]
@@ -55,26 +50,17 @@ impl EtcdMap {
         let etcd = Etcd::new(address, credentials).map_err(StoreError::failed)?;
         Ok(EtcdMap { etcd, key: address.prefix.clone(), revision: 0 })
     }
+}
 
-    /// The map that stands there, if one does.
-    ///
-    /// # Errors
-    ///
-    /// If the cluster does not answer, or refuses.
-    pub fn read(&mut self) -> Result<Option<String>, StoreError> {
+impl MapHome for EtcdMap {
+    fn read(&mut self) -> Result<Option<String>, StoreError> {
         let asked = request::range_of_one(&self.key);
         let found = self.etcd.call("kv/range", &asked, Instant::now() + TIMEOUT)?;
         self.revision = number_of(&found["header"]["revision"]);
         Ok(found["kvs"][0].get("value").and_then(request::text_of))
     }
 
-    /// Puts the next map in the place of the one before, or where there is none. Returns whether it
-    /// stands there then: it does not if somebody has put another one there.
-    ///
-    /// # Errors
-    ///
-    /// If the cluster does not answer, or refuses.
-    pub fn replace(&mut self, before: Option<&str>, next: &str) -> Result<bool, StoreError> {
+    fn replace(&mut self, before: Option<&str>, next: &str) -> Result<bool, StoreError> {
         let asked = json!({
             "compare": [request::has(&self.key, before)],
             "success": [request::put(&self.key, next.as_bytes())],
@@ -86,8 +72,7 @@ impl EtcdMap {
         Ok(request::succeeded(&answer) || found.as_deref() == Some(next))
     }
 
-    /// Waits until the map may be another one than was last read, and for this time at most.
-    pub fn wait(&mut self, most: Duration) {
+    fn wait(&mut self, most: Duration) {
         let end = Instant::now() + most;
         if !self.etcd.watch(&self.key, self.revision + 1, most) {
             thread::sleep(PAUSE_WITHOUT_EVENT.min(end.saturating_duration_since(Instant::now())));
@@ -99,23 +84,15 @@ impl EtcdMap {
 mod tests {
     use super::*;
     use crate::EtcdStore;
-    use krl::store::{Snapshot, Store};
+    use krl::store::{Snapshot, Store, store_tests};
     use krl_testing::cluster::Cluster;
 
-    const LONG: Duration = Duration::from_secs(60);
-
     #[test]
-    fn a_map_is_replaced_only_by_who_knows_the_one_before() {
+    fn a_map_is_replaced_and_waited_for() {
         let Some(cluster) = Cluster::start() else { return };
-        let open = || EtcdMap::open(&cluster.address("map"), &Credentials::default()).unwrap();
-        let (mut one, mut other) = (open(), open());
-        assert_eq!(one.read().unwrap(), None);
-        assert!(!one.replace(Some("0"), "1").unwrap());
-        assert!(one.replace(None, "1").unwrap());
-        assert!(!other.replace(None, "2").unwrap() && !other.replace(Some("0"), "2").unwrap());
-        assert!(other.replace(Some("1"), "2").unwrap());
-        assert!(other.replace(Some("1"), "2").unwrap(), "its answer was lost");
-        assert_eq!(one.read().unwrap().as_deref(), Some("2"));
+        let open = |name| EtcdMap::open(&cluster.address(name), &Credentials::default()).unwrap();
+        store_tests::replaces_only_a_known_map(|| open("map"));
+        store_tests::waits_for_a_map(|| open("other_map"));
     }
 
     #[test]
@@ -130,23 +107,5 @@ mod tests {
         let found = EtcdStore::open(&address, &credentials).unwrap().load().unwrap();
         assert_eq!(found.rows, snapshot.rows);
         assert_eq!(map.read().unwrap().as_deref(), Some("1"));
-    }
-
-    #[test]
-    fn a_change_is_waited_for_also_one_that_came_before_the_wait() {
-        let Some(cluster) = Cluster::start() else { return };
-        let open = || EtcdMap::open(&cluster.address("map"), &Credentials::default()).unwrap();
-        let (mut one, mut other) = (open(), open());
-        one.read().unwrap();
-        other.replace(None, "1").unwrap();
-        let begun = Instant::now();
-        one.wait(LONG);
-        assert_eq!(one.read().unwrap().as_deref(), Some("1"));
-        thread::scope(|scope| {
-            scope.spawn(|| one.wait(LONG));
-            other.replace(Some("1"), "2").unwrap();
-        });
-        assert_eq!(one.read().unwrap().as_deref(), Some("2"));
-        assert!(begun.elapsed() < LONG, "it waited for an event");
     }
 }

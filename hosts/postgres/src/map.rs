@@ -3,8 +3,8 @@ use crate::address::PostgresAddress;
 use crate::connector::{Carrier, Connector};
 use crate::link::failure_of;
 use crate::sql;
-use krl::store::StoreError;
 use krl::store::fence::Failure;
+use krl::store::{MapHome, StoreError};
 use std::fmt;
 use std::sync::Arc;
 use std::time::Duration;
@@ -27,20 +27,15 @@ const PAUSE_WITHOUT_CONNECTION: Duration = Duration::from_millis(200);
 ///
 /// ```no_run
 /// # fn join() -> Result<(), Box<dyn std::error::Error>> {
-/// use krl::{Client, ShardMap};
+/// use krl::{Client, MapHome, ShardMap};
 /// use krl_postgres::PostgresMap;
-/// use std::time::Duration;
 ///
 /// let address = "postgres://krl@localhost/orders".parse()?;
 /// let mut map = PostgresMap::open(&address, None)?;
 /// let first = map.read()?.ok_or("there is no map")?;
 /// let client = Client::join(ShardMap::from_toml(&first)?, 0, "locks")?;
-/// loop {
-///     map.wait(Duration::from_secs(60));
-///     if let Ok(Some(next)) = map.read() {
-///         client.change_map(ShardMap::from_toml(&next)?)?;
-///     }
-/// }
+/// client.follow_at(map)?;
+/// # Ok(())
 /// # }
 /// ```
 pub struct PostgresMap {
@@ -74,37 +69,6 @@ impl PostgresMap {
         Ok(PostgresMap { runtime, connector, session: None })
     }
 
-    /// The map that stands there, if one does.
-    ///
-    /// # Errors
-    ///
-    /// If the database does not answer, or refuses.
-    pub fn read(&mut self) -> Result<Option<String>, StoreError> {
-        self.ask(async |client: &mut Client| read(client).await)
-    }
-
-    /// Puts the next map in the place of the one before, or where there is none. Returns whether it
-    /// stands there then: it does not if somebody has put another one there.
-    ///
-    /// # Errors
-    ///
-    /// If the database does not answer, or refuses. It may have been put there then.
-    pub fn replace(&mut self, before: Option<&str>, next: &str) -> Result<bool, StoreError> {
-        self.ask(async |client: &mut Client| replace(client, before, next).await)
-    }
-
-    /// Waits until the map may be another one than was last read, and for this time at most.
-    pub fn wait(&mut self, most: Duration) {
-        let notify = self.session.as_ref().map(|session| Arc::clone(&session.notify));
-        self.runtime.block_on(async {
-            match notify {
-                // That nothing came in time is no error.
-                Some(notify) => drop(timeout(most, notify.notified()).await),
-                None => sleep(PAUSE_WITHOUT_CONNECTION.min(most)).await,
-            }
-        });
-    }
-
     /// Asks by the connection, or by a new one if it has ended. One that was not answered is given up.
     fn ask<T>(
         &mut self,
@@ -126,6 +90,27 @@ impl PostgresMap {
         let (session, answer) = asked.map_err(unknown)?.map_err(|error| failure_of(&error))?;
         self.session = Some(session);
         Ok(answer)
+    }
+}
+
+impl MapHome for PostgresMap {
+    fn read(&mut self) -> Result<Option<String>, StoreError> {
+        self.ask(async |client: &mut Client| read(client).await)
+    }
+
+    fn replace(&mut self, before: Option<&str>, next: &str) -> Result<bool, StoreError> {
+        self.ask(async |client: &mut Client| replace(client, before, next).await)
+    }
+
+    fn wait(&mut self, most: Duration) {
+        let notify = self.session.as_ref().map(|session| Arc::clone(&session.notify));
+        self.runtime.block_on(async {
+            match notify {
+                // That nothing came in time is no error.
+                Some(notify) => drop(timeout(most, notify.notified()).await),
+                None => sleep(PAUSE_WITHOUT_CONNECTION.min(most)).await,
+            }
+        });
     }
 }
 
@@ -174,45 +159,26 @@ impl fmt::Debug for PostgresMap {
 #[cfg(test)]
 mod tests {
     use super::*;
+    use krl::store::store_tests;
     use krl_testing::database::Database;
-    use std::thread;
     use std::time::Instant;
 
-    const LONG: Duration = Duration::from_secs(60);
-
     #[test]
-    fn a_map_is_replaced_only_by_who_knows_the_one_before() {
+    fn a_map_is_replaced_only_by_one_who_knows_the_one_before() {
         let Some(database) = Database::start() else { return };
         let open = || PostgresMap::open(&database.address(), None).unwrap();
-        let (mut one, mut other) = (open(), open());
-        assert_eq!(one.read().unwrap(), None);
-        assert!(!one.replace(Some("0"), "1").unwrap());
-        assert!(one.replace(None, "1").unwrap());
-        assert!(!other.replace(None, "2").unwrap() && !other.replace(Some("0"), "2").unwrap());
-        assert!(other.replace(Some("1"), "2").unwrap());
-        assert!(other.replace(Some("1"), "2").unwrap(), "its answer was lost");
-        assert_eq!(one.read().unwrap().as_deref(), Some("2"));
+        store_tests::replaces_only_a_known_map(open);
     }
 
     #[test]
-    fn a_change_is_waited_for_also_one_that_came_before_the_wait() {
+    fn a_change_is_waited_for_and_so_is_the_end_of_the_connection() {
         let Some(mut database) = Database::start() else { return };
+        let (begun, most) = (Instant::now(), Duration::from_secs(60));
         let open = || PostgresMap::open(&database.address(), None).unwrap();
-        let (mut one, mut other) = (open(), open());
-        one.read().unwrap();
-        other.replace(None, "1").unwrap();
-        let begun = Instant::now();
-        one.wait(LONG);
-        assert_eq!(one.read().unwrap().as_deref(), Some("1"));
-        thread::scope(|scope| {
-            scope.spawn(|| one.wait(LONG));
-            other.replace(Some("1"), "2").unwrap();
-        });
-        assert_eq!(one.read().unwrap().as_deref(), Some("2"));
-        // The end of the connection is a reason to look again.
+        let mut map = store_tests::waits_for_a_map(open);
         database.stop();
-        one.wait(LONG);
-        assert!(one.read().is_err());
-        assert!(begun.elapsed() < LONG, "it was notified of each change");
+        map.wait(most);
+        assert!(map.read().is_err());
+        assert!(begun.elapsed() < most, "it was notified of each change");
     }
 }

@@ -12,6 +12,7 @@ pub(crate) mod engine;
 pub(crate) mod evict;
 #[cfg(feature = "map-file")]
 mod follow;
+#[cfg_attr(not(feature = "map-file"), expect(dead_code, reason = "no map is followed then"))]
 mod followed_map;
 pub(crate) mod incarnations;
 mod joined;
@@ -41,8 +42,6 @@ pub(crate) mod timeout;
 mod turns;
 pub(crate) mod waiting;
 pub(crate) mod wakes;
-#[cfg(feature = "map-file")]
-pub(crate) mod watched_map;
 mod writer;
 
 use crate::call::error::{Error, ErrorKind, JoinError};

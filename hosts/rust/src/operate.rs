@@ -26,6 +26,7 @@ pub use crate::server::shown::status::Status;
 pub use crate::server::shown::timings::{Counts, Measured};
 pub use crate::server::shown::watch::{HeldSlots, Wait};
 pub use crate::server::strangers::Strangers;
+pub use crate::store::replaced_file::{NextFile, beside};
 #[cfg(feature = "sqlite")]
 pub use crate::store::sqlite::checksum::{Checksum, CutOff};
 #[cfg(feature = "sqlite")]

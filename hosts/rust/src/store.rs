@@ -1,6 +1,8 @@
 //! What survives a server, and the store that commits it: what a store of your own needs.
 #[cfg(feature = "fence")]
 pub mod fence;
+pub(crate) mod map_home;
+pub(crate) mod replaced_file;
 #[cfg(feature = "sqlite")]
 pub(crate) mod sqlite;
 #[cfg(any(test, feature = "store-tests"))]
@@ -14,6 +16,7 @@ pub use crate::model::kept_shard::KeptShard;
 pub use crate::model::lease_record::LeaseRecord;
 pub use crate::model::shard_bounds::ShardBounds;
 pub use crate::model::snapshot::Snapshot;
+pub use map_home::{FileMap, MapHome};
 #[cfg(feature = "sqlite")]
 pub use sqlite::LogWrites;
 

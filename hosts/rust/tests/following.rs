@@ -1,6 +1,6 @@
 //! Clients that follow a map whose shards are cut, merged and moved.
 use krl::error::Unsent;
-use krl::store::{KeptShard, Snapshot};
+use krl::store::{KeptShard, MapHome, Snapshot, StoreError};
 use krl::{
     AsyncClient, Client, ErrorKind, JoinErrorKind, Leases, Listener, MemoryStore, Mutation,
     Outcome, Reader, Row, Server, Servers, Shard, ShardMap, Value,
@@ -12,7 +12,7 @@ use std::num::NonZeroU64;
 use std::path::{Path, PathBuf};
 use std::pin::pin;
 use std::sync::atomic::{AtomicBool, Ordering};
-use std::sync::{Arc, mpsc};
+use std::sync::{Arc, Mutex, mpsc};
 use std::task::{Context, Poll, Wake, Waker};
 use std::thread::{self, Thread};
 use std::time::{Duration, Instant};
@@ -490,6 +490,41 @@ fn a_program_may_hand_over_each_next_map_itself() {
     assert_eq!(client.read(..).unwrap().len(), 2);
     client.change_map(first).unwrap();
     assert_eq!(client.map(), Some(world.map.clone()));
+}
+
+/// A map that a program keeps in its memory. At first it can't be read.
+struct KeptMap(Arc<Mutex<Option<String>>>);
+
+impl MapHome for KeptMap {
+    fn read(&mut self) -> Result<Option<String>, StoreError> {
+        self.0.lock().unwrap().clone().map(Some).ok_or(StoreError::failed("it is not there yet"))
+    }
+
+    fn replace(&mut self, _: Option<&str>, _: &str) -> Result<bool, StoreError> {
+        Ok(false)
+    }
+
+    fn wait(&mut self, _: Duration) {
+        thread::sleep(Duration::from_millis(2));
+    }
+}
+
+#[test]
+fn a_map_is_followed_at_any_home() {
+    let mut world = World::new("home", [10, 150]);
+    let client = Client::builder(world.map.clone(), 0, &world.folder).timeout(LONG).join().unwrap();
+    let kept = Arc::default();
+    client.follow_at(KeptMap(Arc::clone(&kept))).unwrap();
+    for next in [2, 3] {
+        world.publish_move(0);
+        *kept.lock().unwrap() = Some(world.map.to_toml());
+        wait_until(|| version(&client) == next);
+        let rows = world.stop(0);
+        world.start(0, rows);
+        assert_eq!(client.read(..).unwrap().len(), 2);
+    }
+    drop(client);
+    wait_until(|| Arc::strong_count(&kept) == 1);
 }
 
 /// A call in a task has no thread that could wait for its deadline.

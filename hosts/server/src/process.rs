@@ -2,7 +2,6 @@
 pub mod log;
 pub mod output;
 pub mod reload;
-pub mod replaced_file;
 pub mod role;
 
 use std::error::Error;

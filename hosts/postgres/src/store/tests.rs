@@ -1,6 +1,7 @@
 //! What is committed is what is loaded, and who commits. They start a server of PostgreSQL.
 use super::*;
 use crate::map::PostgresMap;
+use krl::store::MapHome;
 use krl::store::store_tests::{self, REGISTER, is_deposed, put};
 use krl_testing::database::{Database, TRAPS};
 

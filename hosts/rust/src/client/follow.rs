@@ -1,18 +1,23 @@
-//! A client that follows its map: it looks at the file, and continues by each next map.
+//! A client that follows its map: it continues by each next one.
+use crate::call::error::JoinError;
 use crate::client::Client;
+use crate::client::followed_map::FollowedMap;
 use crate::client::table::Live;
-use crate::client::watched_map::WatchedMap;
 use crate::log::event_log;
 use crate::shards::map::ShardMap;
+use crate::store::map_home::{FileMap, MapHome};
 use std::io::{self, ErrorKind};
 use std::num::NonZeroU64;
 use std::path::PathBuf;
-use std::sync::Arc;
+use std::sync::{Arc, Weak};
 use std::thread;
 use std::time::Duration;
 
-/// How often a client looks whether the file is another one.
-const FILE_CHECK_INTERVAL: Duration = Duration::from_millis(50);
+/// How long one wait for the next map is.
+const CHANGE_WAIT: Duration = Duration::from_secs(10);
+
+/// The pause after which a client that could not continue by the next map tries it again.
+const RETRY_PAUSE: Duration = Duration::from_millis(50);
 
 impl Client {
     /// From now on the client follows the map in this file: it continues by each map that it finds
@@ -38,47 +43,63 @@ impl Client {
     ///
     /// `InvalidInput` if the client has no map with a version; why there is no thread for it.
     pub fn follow(&self, file: impl Into<PathBuf>) -> io::Result<()> {
-        if self.map().and_then(|map| map.version()).is_none() {
+        self.follow_at(FileMap::new(file))
+    }
+
+    /// From now on the client follows the map at this home, as by [`Client::follow`] the one in a file:
+    /// a key of etcd, as `EtcdMap` of `krl-etcd`, a row of `PostgreSQL`, as `PostgresMap` of
+    /// `krl-postgres`, or another.
+    ///
+    /// # Errors
+    ///
+    /// As of [`Client::follow`].
+    pub fn follow_at(&self, home: impl MapHome + Send + 'static) -> io::Result<()> {
+        let Some(version) = self.map().and_then(|map| map.version()) else {
             let why = "only a client of a map with a version follows a map";
             return Err(io::Error::new(ErrorKind::InvalidInput, why));
-        }
-        let live = Arc::clone(&self.table.live);
+        };
+        let live = &self.table.live;
         live.follow_map();
-        let follower = Follower { live, map: WatchedMap::new(file.into()) };
+        let follower = Follower { live: Arc::downgrade(live), map: FollowedMap::of(home, version) };
         thread::Builder::new().name("krl-map".into()).spawn(|| follower.run()).map(drop)
     }
 }
 
-/// The thread of a client that looks at the file of its map.
-struct Follower {
-    live: Arc<Live>,
-    map: WatchedMap,
+/// The thread of a client that follows its map.
+struct Follower<H> {
+    live: Weak<Live>,
+    map: FollowedMap<H>,
 }
 
-impl Follower {
-    /// Looks at the file until the client leaves, or nobody has it any more.
+impl<H: MapHome> Follower<H> {
+    /// Follows the map until the client leaves, or nobody has it any more.
     fn run(mut self) {
-        while !self.live.is_over() {
-            if let Some(map) = self.map.look() {
-                self.continue_by(map);
+        while let Some(live) = self.live.upgrade().filter(|live| !live.is_over()) {
+            let continued = self.continue_by_next(&live);
+            drop(live);
+            match continued {
+                Ok(()) => self.map.wait(CHANGE_WAIT),
+                Err(error) => {
+                    self.map.log(&error);
+                    thread::sleep(RETRY_PAUSE);
+                }
             }
-            thread::sleep(FILE_CHECK_INTERVAL);
         }
     }
 
-    /// Continues by this map, if it is a next one. It is tried again if that fails.
-    fn continue_by(&mut self, map: ShardMap) {
-        let before = self.version();
-        if let Err(error) = self.live.change(map) {
-            return self.map.log(&error);
+    /// Continues by the next map, if there is one. It is tried again if that fails.
+    fn continue_by_next(&mut self, live: &Live) -> Result<(), JoinError> {
+        let Some(next) = self.map.look() else { return Ok(()) };
+        let before = version_of(live);
+        live.change(next.clone())?;
+        if version_of(live) > before {
+            event_log::follows_map(version_of(live).map_or(0, NonZeroU64::get));
         }
-        if self.version() > before {
-            event_log::follows_map(self.version().map_or(0, NonZeroU64::get));
-        }
-        self.map.finish();
+        self.map.take_next();
+        Ok(())
     }
+}
 
-    fn version(&self) -> Option<NonZeroU64> {
-        self.live.now().map().and_then(ShardMap::version)
-    }
+fn version_of(live: &Live) -> Option<NonZeroU64> {
+    live.now().map().and_then(ShardMap::version)
 }

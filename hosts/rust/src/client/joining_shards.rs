@@ -151,7 +151,7 @@ fn wait_for(
         if let Some(answer) = client.link().answered_by(&asked, look) {
             return Ended::Answered(answer);
         }
-        if let Some(next) = followed.look() {
+        if let Some(next) = followed.find_next() {
             return Ended::Next(next);
         }
         if look >= end {

@@ -10,13 +10,13 @@ use crate::client::followed_map::FollowedMap;
 use crate::client::place::Place;
 use crate::client::standing::Standing;
 use crate::client::timeout::{MAX_WAIT, TIMEOUT};
-#[cfg(feature = "map-file")]
-use crate::client::watched_map::WatchedMap;
 use crate::model::row::{END, Row, Value};
 #[cfg(feature = "tls")]
 use crate::net::tls::TlsConfig;
 use crate::proved::partition::Part;
 use crate::shards::map::ShardMap;
+#[cfg(feature = "map-file")]
+use crate::store::map_home::FileMap;
 pub(crate) use of_server::ServerReader;
 #[cfg(feature = "map-file")]
 use std::io;
@@ -72,7 +72,7 @@ impl Reader {
     /// A reader of the table at this place. It connects at its first call.
     #[must_use]
     pub fn new(place: impl Into<Place>) -> Reader {
-        let (place, followed) = (place.into(), FollowedMap::default());
+        let (place, followed) = (place.into(), FollowedMap::none());
         Reader { place, timeout: TIMEOUT, servers: Vec::new(), followed }
     }
 
@@ -108,7 +108,7 @@ impl Reader {
             let why = "only a reader of a map with a version follows a map";
             io::Error::new(io::ErrorKind::InvalidInput, why)
         })?;
-        self.followed = FollowedMap::of(WatchedMap::new(file.into()), version);
+        self.followed = FollowedMap::of(FileMap::new(file), version);
         Ok(())
     }
 

@@ -19,6 +19,7 @@ use crate::model::room::Room;
 use crate::model::row::{Row, Value};
 use crate::model::shard_bounds::ShardBounds;
 use crate::model::snapshot::Snapshot;
+use crate::store::replaced_file::beside;
 use crate::store::sqlite::checksum::Checksum;
 use crate::store::sqlite::journal::Journal;
 use crate::store::sqlite::merged::Merged;
@@ -249,7 +250,7 @@ impl SqliteStore {
     fn open_by(path: &Path, locking: &str, writes: LogWrites) -> Result<SqliteStore, StoreError> {
         let path = store_file(path)?;
         // SQLite makes one as it looks.
-        let had_log = copy::beside(&path, "-wal").exists();
+        let had_log = beside(&path, "-wal").exists();
         let connection = connect(&path, writes)?;
         connection.busy_timeout(TIMEOUT)?;
         connection.pragma_update(None, "locking_mode", locking)?;

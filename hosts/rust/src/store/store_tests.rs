@@ -19,9 +19,12 @@ use crate::model::room::Room;
 use crate::model::row::{END, MAX_VALUE_BYTES, Row, Value};
 use crate::model::shard_bounds::ShardBounds;
 use crate::model::snapshot::Snapshot;
+use crate::store::map_home::MapHome;
 use crate::store::{Store, StoreError};
 use std::num::NonZeroU64;
 use std::ops::Range;
+use std::thread;
+use std::time::{Duration, Instant};
 
 /// A client registers for the first time.
 pub const REGISTER: Change = Change::Registered { client: 9, incarnation: 1 };
@@ -321,4 +324,47 @@ pub fn removes_only_what_is_sealed<S: Store>(
     create(&opened).expect("the other one is removed");
     assert!(!remove(&(10..20)).expect("it is asked"), "a server may start on it");
     assert_eq!(loaded(&mut open).1, opened);
+}
+
+/// A map is replaced only by one who knows the one before. There is no map at first.
+///
+/// # Panics
+///
+/// If the home does something wrong.
+pub fn replaces_only_a_known_map<H: MapHome>(mut open: impl FnMut() -> H) {
+    let (mut one, mut other) = (open(), open());
+    let read = |home: &mut H| home.read().expect("it is read");
+    let replace = |home: &mut H, before, next| home.replace(before, next).expect("it answers");
+    assert_eq!(read(&mut one), None);
+    assert!(!replace(&mut one, Some("0"), "1"));
+    assert!(replace(&mut one, None, "1"));
+    assert!(!replace(&mut other, None, "2") && !replace(&mut other, Some("0"), "2"));
+    assert!(replace(&mut other, Some("1"), "2"));
+    assert!(replace(&mut other, Some("1"), "2"), "the answer to the first call may have been lost");
+    assert_eq!(read(&mut one).as_deref(), Some("2"));
+}
+
+/// A change of a map is waited for, also one that came before the wait. There is no map at first.
+/// Returns one that has read the map.
+///
+/// # Panics
+///
+/// If the home does something wrong.
+pub fn waits_for_a_map<H: MapHome + Send>(mut open: impl FnMut() -> H) -> H {
+    const LONG: Duration = Duration::from_secs(60);
+    let (mut one, mut other) = (open(), open());
+    let read = |home: &mut H| home.read().expect("it is read");
+    let mut replace = |before, next| assert!(other.replace(before, next).expect("it answers"));
+    assert_eq!(read(&mut one), None);
+    replace(None, "1");
+    let begun = Instant::now();
+    one.wait(LONG);
+    assert_eq!(read(&mut one).as_deref(), Some("1"));
+    thread::scope(|scope| {
+        scope.spawn(|| one.wait(LONG));
+        replace(Some("1"), "2");
+    });
+    assert_eq!(read(&mut one).as_deref(), Some("2"));
+    assert!(begun.elapsed() < LONG, "it waited for an event");
+    one
 }

@@ -1,15 +1,15 @@
 //! The map of a table at home in etcd or PostgreSQL: how it comes there, and into the files that
 //! servers and clients follow.
 use super::next_map;
-use crate::daemon::map_home::Home;
+use crate::daemon::map_home;
 use crate::process::Done;
 use crate::process::log::Unanswered;
 use crate::process::output::{self, cause};
-use crate::process::replaced_file;
 use crate::settings::{StorePlace, credentials};
 use clap::Subcommand;
 use krl::ShardMap;
-use krl::store::StoreError;
+use krl::store::{FileMap, MapHome, StoreError};
+use std::fmt::Display;
 use std::path::{Path, PathBuf};
 use std::thread;
 use std::time::Duration;
@@ -72,10 +72,7 @@ fn put(home: &StorePlace, file: &Path, replaced: Option<&Path>) -> Done {
     let version = version_of(&next);
     if is_next(earlier.as_ref(), &next).map_err(|why| format!("{home} {why}"))? {
         refuse_other(home, earlier.as_ref(), replaced)?;
-        if !found.replace(before.as_deref(), &next.to_toml()).map_err(fails)? {
-            let why = format!("another map was put to {home} meanwhile: repeat the command");
-            return Err(why.into());
-        }
+        replace(&mut *found, home, before.as_deref(), &next, fails)?;
     }
     Ok(output::print_done(&format!("{home}: the map of version {version}\n"))?)
 }
@@ -133,17 +130,37 @@ fn follow(place: &StorePlace, file: &Path) -> Done {
 
 /// Writes the map to the file, unless that has it, or a later one.
 fn take(text: &str, file: &Path) -> Done {
-    let next = ShardMap::from_toml(text)?;
-    let earlier = ShardMap::from_file(file).ok();
-    if is_next(earlier.as_ref(), &next).map_err(|why| format!("{} {why}", file.display()))? {
-        replaced_file::replace(file, &next.to_toml())?;
-        output::report(&format!("{}: the map of version {}", file.display(), version_of(&next)));
+    let (next, shown, mut home) = (ShardMap::from_toml(text)?, file.display(), FileMap::new(file));
+    let fails = |error: StoreError| cause(&error);
+    let before = home.read().map_err(fails)?;
+    let earlier = before.as_deref().and_then(|text| ShardMap::from_toml(text).ok());
+    if is_next(earlier.as_ref(), &next).map_err(|why| format!("{shown} {why}"))? {
+        replace(&mut home, &shown, before.as_deref(), &next, fails)?;
+        output::report(&format!("{shown}: the map of version {}", version_of(&next)));
     }
     Ok(())
 }
 
-fn open(place: &StorePlace) -> Done<Home> {
-    Home::open(place, &credentials::of_environment())
+/// Puts a map in the place of the one that was found at its home.
+fn replace(
+    home: &mut dyn MapHome,
+    shown: &dyn Display,
+    before: Option<&str>,
+    next: &ShardMap,
+    fails: impl Fn(StoreError) -> String,
+) -> Done {
+    if home.replace(before, &next.to_toml()).map_err(fails)? {
+        return Ok(());
+    }
+    Err(format!("another map was put to {shown} meanwhile: repeat the command").into())
+}
+
+fn open(place: &StorePlace) -> Done<Box<dyn MapHome + Send>> {
+    if let StorePlace::File(path) = place {
+        let why = "such a map is at home in etcd or PostgreSQL";
+        return Err(format!("{} is a file: {why}", path.display()).into());
+    }
+    map_home::open(place, &credentials::of_environment())
 }
 
 fn version_of(map: &ShardMap) -> u64 {

@@ -1,6 +1,6 @@
 //! The changes of a map that have begun, in a file next to it.
 use crate::process::Done;
-use crate::process::replaced_file::{self, beside};
+use krl::operate::{NextFile, beside};
 use krl::store::ShardBounds;
 use krl::{Shard, ShardMap};
 use serde::{Deserialize, Serialize};
@@ -143,7 +143,7 @@ impl MapChanges {
     /// Puts them on the disk, next to the map in this file.
     pub fn write(&self, map: &Path) -> Done {
         let text = format!("{NOTE}\n{}", toml::to_string_pretty(self)?);
-        Ok(replaced_file::replace(&path_of(map), &text)?)
+        Ok(NextFile::replace(&path_of(map), &text)?)
     }
 }
 

@@ -1,7 +1,7 @@
 //! The map after a split or a merge, as a file.
 use crate::process::Done;
-use crate::process::replaced_file::NextFile;
 use clap::Args;
+use krl::operate::NextFile;
 use krl::store::{KeptShard, ShardBounds, Snapshot};
 use krl::{Address, Servers, Shard, ShardMap};
 use std::error::Error;

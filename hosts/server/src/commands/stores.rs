@@ -2,10 +2,10 @@
 use crate::daemon::owner::{self, Owner};
 use crate::process::Done;
 use crate::process::output::{self, cause, numbers};
-use crate::process::replaced_file::beside;
 use crate::settings::{StorePlace, credentials};
 use krl::SqliteStore;
 use krl::operate::StoreFile;
+use krl::operate::beside;
 use krl::store::{Snapshot, Store, StoreError};
 use krl_etcd::EtcdStore;
 use krl_postgres::PostgresStore;

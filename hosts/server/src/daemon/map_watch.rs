@@ -1,6 +1,6 @@
 //! The map that clients follow, as a server watches it: clients that do not follow it may not hold a
 //! change up for longer than their leases.
-use super::map_home::Home;
+use super::map_home;
 use crate::process::Done;
 use crate::process::role::{Role, State};
 use crate::settings::StorePlace;
@@ -20,11 +20,14 @@ type Next = Option<(ShardBounds, Instant)>;
 
 /// Watches the map from now on, while the process serves.
 pub fn start(role: Role, map: &StorePlace, credentials: &Credentials) -> Done {
-    let (mut read, mut next, mut given) = (reader(map, credentials)?, None, None);
+    let (mut home, mut next, mut given) = (map_home::open(map, credentials)?, None, None);
     Ok(role.watch("map", MAP_PERIOD, move |state| {
         let State::Serves { monitor, .. } = state else { return };
         let own = monitor.status().shard;
-        let found = own.and_then(|own| in_place_of(own, &read()?));
+        let found = own.and_then(|own| {
+            let map = ShardMap::from_toml(&home.read().ok()??).ok()?;
+            in_place_of(own, &map)
+        });
         next = since(next, found, Instant::now());
         let due = next.filter(|(_, since)| since.elapsed() >= GRACE).map(|(next, _)| next);
         if due != given && monitor.give_way(due) {
@@ -32,19 +35,6 @@ pub fn start(role: Role, map: &StorePlace, credentials: &Credentials) -> Done {
             given = due;
         }
     })?)
-}
-
-/// What reads the map that stands there, if one does that can be read.
-fn reader(
-    map: &StorePlace,
-    credentials: &Credentials,
-) -> Done<Box<dyn FnMut() -> Option<ShardMap> + Send>> {
-    if let StorePlace::File(path) = map {
-        let path = path.clone();
-        return Ok(Box::new(move || ShardMap::from_file(&path).ok()));
-    }
-    let mut home = Home::open(map, credentials)?;
-    Ok(Box::new(move || ShardMap::from_toml(&home.read().ok()??).ok()))
 }
 
 fn log(next: Option<ShardBounds>) {

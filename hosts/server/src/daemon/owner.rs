@@ -1,6 +1,6 @@
 //! Who serves a store, or changes a map, as stated in a file next to it.
 use crate::process::output::cause;
-use crate::process::replaced_file::beside;
+use krl::operate::beside;
 use krl::operate::store_file;
 use std::fmt;
 use std::fs::{File, OpenOptions, TryLockError};

@@ -2,6 +2,7 @@
 use crate::model::kept_shard::KeptShard;
 use crate::model::snapshot::Snapshot;
 use crate::store::StoreError;
+use crate::store::replaced_file::beside;
 use crate::store::sqlite::checksum::{self, Checksum, CutOff};
 use crate::store::sqlite::copy::part::Part;
 use crate::store::sqlite::name::store_file;
@@ -9,11 +10,10 @@ use crate::store::sqlite::version::{self, Found, VERSION, look};
 use crate::store::sqlite::{self, SqliteStore};
 use rusqlite::config::DbConfig;
 use rusqlite::{Connection, ErrorCode, OpenFlags};
-use std::ffi::OsString;
 use std::fs::File;
 use std::io::{self, ErrorKind, Read};
 use std::os::unix::ffi::OsStrExt;
-use std::path::{Path, PathBuf};
+use std::path::Path;
 
 pub(super) mod part;
 
@@ -171,13 +171,6 @@ fn percent_encoded(path: &Path) -> String {
     path.as_os_str().as_bytes().iter().map(encoded).collect()
 }
 
-/// The path with something after it.
-pub(crate) fn beside(path: &Path, end: &str) -> PathBuf {
-    let mut name = OsString::from(path);
-    name.push(end);
-    name.into()
-}
-
 /// Whether the file is a new store of the snapshot, which no server has opened. It may be unsealed
 /// since.
 fn is_made_of(path: &Path, snapshot: &Snapshot) -> bool {
@@ -229,6 +222,7 @@ pub(crate) mod tests {
     use crate::model::row::Value;
     use crate::store::Store;
     use std::os::unix::fs::PermissionsExt;
+    use std::path::PathBuf;
 
     pub struct Folder(pub PathBuf);
 

@@ -1,6 +1,7 @@
 use super::copy::tests::COUNTS;
 use super::*;
 use crate::model::change::Write;
+use crate::store::replaced_file::beside;
 use crate::store::store_tests::{self, changes, row};
 
 /// What the store has, but for its first start, which it draws.
@@ -158,7 +159,7 @@ fn a_batch_changes_one_page_of_a_new_store_while_that_has_room() {
     let mut store = SqliteStore::open(&file).unwrap();
     assert_eq!(page_size(&store.connection).unwrap(), PAGE_SIZE);
     store.commit(&changes()[..4]).unwrap();
-    let log = copy::beside(&file, "-wal");
+    let log = beside(&file, "-wal");
     let length = || log.metadata().unwrap().len();
     for number in 2..6 {
         let before = length();

@@ -1,6 +1,7 @@
 //! A file that is written under a name of its own, and then takes another one.
-use super::{beside, exists};
+use super::exists;
 use crate::store::StoreError;
+use crate::store::replaced_file::beside;
 use std::fs::{DirEntry, File, Metadata, OpenOptions};
 use std::hash::{BuildHasher, Hasher, RandomState};
 use std::io::{self, ErrorKind};

@@ -1,7 +1,7 @@
 use super::*;
 use crate::model::change::{Change, Outcome, Write};
 use crate::model::snapshot::Snapshot;
-use crate::store::sqlite::copy::beside;
+use crate::store::replaced_file::beside;
 use crate::store::sqlite::copy::tests::Folder;
 use crate::store::sqlite::{LogWrites, SqliteStore};
 use crate::store::store_tests::{self, REGISTER, judged, row, without_first_start};
