@@ -8,6 +8,7 @@
 //! lacks a transaction that was answered takes that back, and the epoch may fall: then nothing that
 //! krl promises holds. See [`PostgresStore`].
 mod address;
+mod asker;
 mod batch;
 mod connector;
 mod head;

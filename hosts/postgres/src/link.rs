@@ -1,4 +1,5 @@
 //! A connection to the database, which is made again when it ends.
+use crate::asker::{self, Asker};
 use crate::batch::{self, Batch};
 use crate::connector::{Carrier, Connector};
 use crate::head::{fence_of, owner_text};
@@ -6,7 +7,6 @@ use crate::sql;
 use krl::store::fence::{Failure, Fence};
 use std::thread;
 use std::time::{Duration, Instant};
-use tokio::runtime::{Builder, Runtime};
 use tokio_postgres::error::SqlState;
 use tokio_postgres::types::ToSql;
 use tokio_postgres::{Client, Error, IsolationLevel, Row, Statement};
@@ -42,11 +42,7 @@ pub(crate) struct Stored {
     pub shard: Option<Row>,
 }
 
-pub(crate) struct Link {
-    runtime: Runtime,
-    connector: Connector,
-    session: Option<Session>,
-}
+pub(crate) struct Link(Asker<Session>);
 
 /// A connection, with what is asked often.
 struct Session {
@@ -65,8 +61,7 @@ struct Statements {
 
 impl Link {
     pub fn new(connector: Connector) -> std::io::Result<Link> {
-        let runtime = Builder::new_current_thread().enable_all().build()?;
-        Ok(Link { runtime, connector, session: None })
+        Ok(Link(Asker::new(connector)?))
     }
 
     /// Connects, if it has no connection.
@@ -135,40 +130,25 @@ impl Link {
         }
     }
 
-    /// Asks once. A connection whose question was not answered is given up.
     fn ask<T>(
         &mut self,
         end: Instant,
         what: impl AsyncFnOnce(&mut Session) -> Result<T, Error>,
     ) -> Result<T, Failure> {
-        let left = end.saturating_duration_since(Instant::now());
-        let session = self.session.take().filter(|session| !session.client.is_closed());
-        let asked = self.runtime.block_on(async {
-            let asking = async {
-                let mut session = match session {
-                    Some(session) => session,
-                    None => connect(&self.connector).await?,
-                };
-                let answer = what(&mut session).await?;
-                Ok::<_, Error>((session, answer))
-            };
-            tokio::time::timeout(left, asking).await
-        });
-        match asked {
-            Ok(Ok((session, answer))) => {
-                self.session = Some(session);
-                Ok(answer)
-            }
-            Ok(Err(error)) => Err(failure_of(&error)),
-            Err(_) => Err(Failure::Unknown("no answer came in time".to_string())),
-        }
+        self.0.ask(end.saturating_duration_since(Instant::now()), what)
     }
 }
 
-async fn connect(connector: &Connector) -> Result<Session, Error> {
-    let (client, carrier) = connector.connect().await?;
-    client.batch_execute(sql::SESSION).await?;
-    Ok(Session { client, statements: None, _carrier: carrier })
+impl asker::Session for Session {
+    async fn open(connector: &Connector) -> Result<Session, Error> {
+        let (client, carrier) = connector.connect().await?;
+        client.batch_execute(sql::SESSION).await?;
+        Ok(Session { client, statements: None, _carrier: carrier })
+    }
+
+    fn client(&self) -> &Client {
+        &self.client
+    }
 }
 
 impl Session {

@@ -1,14 +1,12 @@
 //! A map of shards in a row of PostgreSQL.
 use crate::address::PostgresAddress;
+use crate::asker::{self, Asker};
 use crate::connector::{Carrier, Connector};
-use crate::link::failure_of;
 use crate::sql;
-use krl::store::fence::Failure;
 use krl::store::{MapHome, StoreError};
 use std::fmt;
 use std::sync::Arc;
 use std::time::Duration;
-use tokio::runtime::{Builder, Runtime};
 use tokio::sync::Notify;
 use tokio::time::{sleep, timeout};
 use tokio_postgres::{Client, Error};
@@ -38,11 +36,7 @@ const PAUSE_WITHOUT_CONNECTION: Duration = Duration::from_millis(200);
 /// # Ok(())
 /// # }
 /// ```
-pub struct PostgresMap {
-    runtime: Runtime,
-    connector: Connector,
-    session: Option<Session>,
-}
+pub struct PostgresMap(Asker<Session>);
 
 /// A connection that listens.
 struct Session {
@@ -50,6 +44,20 @@ struct Session {
     /// It is notified of each change, and of the end of the connection.
     notify: Arc<Notify>,
     _carrier: Carrier,
+}
+
+impl asker::Session for Session {
+    async fn open(connector: &Connector) -> Result<Session, Error> {
+        let notify = Arc::new(Notify::new());
+        let (client, carrier) = connector.connect_and_notify(Arc::clone(&notify)).await?;
+        client.batch_execute(sql::SESSION).await?;
+        client.batch_execute(sql::LISTEN).await?;
+        Ok(Session { client, notify, _carrier: carrier })
+    }
+
+    fn client(&self) -> &Client {
+        &self.client
+    }
 }
 
 impl PostgresMap {
@@ -64,47 +72,24 @@ impl PostgresMap {
         user: Option<&(String, String)>,
     ) -> Result<PostgresMap, StoreError> {
         let connector = Connector::new(address, user).map_err(StoreError::failed)?;
-        let runtime = Builder::new_current_thread().enable_all().build();
-        let runtime = runtime.map_err(StoreError::failed)?;
-        Ok(PostgresMap { runtime, connector, session: None })
-    }
-
-    /// Asks by the connection, or by a new one if it has ended. One that was not answered is given up.
-    fn ask<T>(
-        &mut self,
-        what: impl AsyncFnOnce(&mut Client) -> Result<T, Error>,
-    ) -> Result<T, StoreError> {
-        let session = self.session.take().filter(|session| !session.client.is_closed());
-        let asked = self.runtime.block_on(async {
-            let asking = async {
-                let mut session = match session {
-                    Some(session) => session,
-                    None => listen(&self.connector).await?,
-                };
-                let answer = what(&mut session.client).await?;
-                Ok::<_, Error>((session, answer))
-            };
-            timeout(TIMEOUT, asking).await
-        });
-        let unknown = |_| Failure::Unknown("no answer came in time".to_string());
-        let (session, answer) = asked.map_err(unknown)?.map_err(|error| failure_of(&error))?;
-        self.session = Some(session);
-        Ok(answer)
+        Ok(PostgresMap(Asker::new(connector).map_err(StoreError::failed)?))
     }
 }
 
 impl MapHome for PostgresMap {
     fn read(&mut self) -> Result<Option<String>, StoreError> {
-        self.ask(async |client: &mut Client| read(client).await)
+        Ok(self.0.ask(TIMEOUT, async |session: &mut Session| read(&session.client).await)?)
     }
 
     fn replace(&mut self, before: Option<&str>, next: &str) -> Result<bool, StoreError> {
-        self.ask(async |client: &mut Client| replace(client, before, next).await)
+        let replacing =
+            async |session: &mut Session| replace(&mut session.client, before, next).await;
+        Ok(self.0.ask(TIMEOUT, replacing)?)
     }
 
     fn wait(&mut self, most: Duration) {
-        let notify = self.session.as_ref().map(|session| Arc::clone(&session.notify));
-        self.runtime.block_on(async {
+        let notify = self.0.session.as_ref().map(|session| Arc::clone(&session.notify));
+        self.0.runtime.block_on(async {
             match notify {
                 // That nothing came in time is no error.
                 Some(notify) => drop(timeout(most, notify.notified()).await),
@@ -112,14 +97,6 @@ impl MapHome for PostgresMap {
             }
         });
     }
-}
-
-async fn listen(connector: &Connector) -> Result<Session, Error> {
-    let notify = Arc::new(Notify::new());
-    let (client, carrier) = connector.connect_and_notify(Arc::clone(&notify)).await?;
-    client.batch_execute(sql::SESSION).await?;
-    client.batch_execute(sql::LISTEN).await?;
-    Ok(Session { client, notify, _carrier: carrier })
 }
 
 async fn has_table(client: &Client) -> Result<bool, Error> {
@@ -152,7 +129,7 @@ async fn replace(client: &mut Client, before: Option<&str>, next: &str) -> Resul
 
 impl fmt::Debug for PostgresMap {
     fn fmt(&self, f: &mut fmt::Formatter<'_>) -> fmt::Result {
-        f.debug_struct("PostgresMap").field("connector", &self.connector).finish_non_exhaustive()
+        f.debug_struct("PostgresMap").field("connector", &self.0.connector).finish_non_exhaustive()
     }
 }
 
