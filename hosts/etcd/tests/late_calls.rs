@@ -5,8 +5,8 @@ use krl::store::store_tests::{REGISTER, is_deposed, put};
 use krl::store::{Change, Store, StoreError};
 use krl_etcd::{Credentials, EtcdAddress, EtcdStore};
 use krl_testing::cluster::Cluster;
-use krl_testing::deaf_relay::DeafRelay;
 use krl_testing::etcd_relay::{Holds, Relay};
+use krl_testing::relay;
 use std::thread;
 use std::time::Duration;
 
@@ -98,8 +98,8 @@ fn of_two_starts_that_cross_one_is_made() {
 fn a_connection_that_is_silent_is_left_for_a_new_one() {
     let Some(cluster) = Cluster::start() else { return };
     let direct: EtcdAddress = cluster.address("silent");
-    let relay = DeafRelay::start(direct.endpoints[0].parse().unwrap());
-    let address = EtcdAddress { endpoints: vec![relay.address().to_string()], ..direct };
+    let relay = relay::Relay::to(direct.endpoints[0].parse().unwrap());
+    let address = EtcdAddress { endpoints: vec![relay.at().to_string()], ..direct };
     let mut store = loaded(&address).with_commit_timeout(Duration::from_secs(15));
     store.commit(&BEGIN).unwrap();
     relay.swallow();

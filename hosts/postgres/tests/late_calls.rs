@@ -5,7 +5,7 @@ use krl::store::store_tests::{REGISTER, is_deposed, put};
 use krl::store::{Change, Store, StoreError};
 use krl_postgres::{PostgresAddress, PostgresStore};
 use krl_testing::database::{Database, address_at};
-use krl_testing::deaf_relay::DeafRelay;
+use krl_testing::relay::Relay;
 use std::thread;
 use std::time::Duration;
 
@@ -69,8 +69,8 @@ fn a_commit_that_comes_after_another_start_is_not_made() {
 #[test]
 fn a_commit_whose_answer_got_lost_is_found_to_be_made() {
     let Some(database) = Database::start() else { return };
-    let relay = DeafRelay::start(database.at());
-    let mut store = loaded(&address_at(relay.address()));
+    let relay = Relay::to(database.at());
+    let mut store = loaded(&address_at(relay.at()));
     store.commit(&BEGIN).unwrap();
     relay.lose_next_answer();
     store.commit(&[put(1, 1)]).unwrap();
@@ -82,8 +82,8 @@ fn a_commit_whose_answer_got_lost_is_found_to_be_made() {
 #[test]
 fn a_commit_whose_answer_got_lost_is_reported_as_unknown_if_the_database_is_gone() {
     let Some(mut database) = Database::start() else { return };
-    let relay = DeafRelay::start(database.at());
-    let store = loaded(&address_at(relay.address()));
+    let relay = Relay::to(database.at());
+    let store = loaded(&address_at(relay.at()));
     let mut store = store.with_commit_timeout(Duration::from_secs(2));
     store.commit(&BEGIN).unwrap();
     relay.lose_all_answers();
@@ -96,13 +96,13 @@ fn a_commit_whose_answer_got_lost_is_reported_as_unknown_if_the_database_is_gone
 #[test]
 fn a_connection_that_is_silent_is_left_for_a_new_one() {
     let Some(database) = Database::start() else { return };
-    let relay = DeafRelay::start(database.at());
-    let store = loaded(&address_at(relay.address()));
+    let relay = Relay::to(database.at());
+    let store = loaded(&address_at(relay.at()));
     let mut store = store.with_commit_timeout(Duration::from_secs(15));
     store.commit(&BEGIN).unwrap();
     relay.swallow();
-    let before = relay.connections();
+    let before = relay.count();
     store.commit(&[put(1, 1)]).unwrap();
-    assert!(relay.connections() > before);
+    assert!(relay.count() > before);
     assert_eq!(value_of(&database), Some(1));
 }

@@ -16,7 +16,6 @@ pub mod certificates;
 pub mod cluster;
 #[cfg(feature = "database")]
 pub mod database;
-pub mod deaf_relay;
 pub mod etcd_relay;
 pub mod header;
 pub mod ports;

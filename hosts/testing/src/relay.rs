@@ -1,5 +1,5 @@
-//! A relay between a client and its server that fails as proxies, address translators and load
-//! balancers do: it swallows what passes, loses answers, ends connections, or answers by itself.
+//! A relay to a server or a database that fails as proxies, address translators and load balancers
+//! do: it swallows what passes, loses answers, ends connections, or answers by itself.
 use std::collections::VecDeque;
 use std::io::{Read, Write};
 use std::net::{Shutdown, SocketAddr, TcpListener, TcpStream};
@@ -30,6 +30,17 @@ struct Shared {
     /// The plans for the next connections. Those after them pass.
     plans: Mutex<VecDeque<Plan>>,
     routes: Mutex<Vec<Arc<Route>>>,
+    loss: Mutex<Loss>,
+    has_lost: AtomicBool,
+}
+
+/// Which answers get lost, so that their connections end.
+#[derive(Clone, Copy, Debug, Default, PartialEq, Eq)]
+enum Loss {
+    #[default]
+    None,
+    Next,
+    All,
 }
 
 /// One connection that came.
@@ -80,6 +91,21 @@ impl Relay {
         self.each(|route| route.loses_answers.store(true, Ordering::SeqCst));
     }
 
+    /// The next answer gets lost, and its connection ends.
+    pub fn lose_next_answer(&self) {
+        *lock(&self.shared.loss) = Loss::Next;
+    }
+
+    /// From now on each answer gets lost, and its connection ends.
+    pub fn lose_all_answers(&self) {
+        *lock(&self.shared.loss) = Loss::All;
+    }
+
+    /// Whether an answer got lost in one of these ways.
+    pub fn has_lost(&self) -> bool {
+        self.shared.has_lost.load(Ordering::SeqCst)
+    }
+
     /// Ends the open connections.
     pub fn end(&self) {
         self.each(Route::end);
@@ -92,7 +118,7 @@ impl Relay {
 
 impl Shared {
     /// Takes one connection. It is counted when its plan is done or it passes.
-    fn take(&self, mut client: TcpStream, server: SocketAddr) {
+    fn take(self: &Arc<Shared>, mut client: TcpStream, server: SocketAddr) {
         let plan = lock(&self.plans).pop_front();
         let server = match plan {
             None => TcpStream::connect(server).ok(),
@@ -113,23 +139,44 @@ impl Shared {
         let route = Arc::new(Route { streams, loses_requests, loses_answers });
         lock(&self.routes).push(Arc::clone(&route));
         if let Some(server) = server {
-            route.start(client, server);
+            route.start(client, server, Arc::clone(self));
         }
+    }
+
+    /// Whether an answer gets lost that came just now.
+    fn loses_this(&self) -> bool {
+        let mut loss = lock(&self.loss);
+        let is_lost = *loss != Loss::None;
+        if *loss == Loss::Next {
+            *loss = Loss::None;
+        }
+        self.has_lost.fetch_or(is_lost, Ordering::SeqCst);
+        is_lost
     }
 }
 
 impl Route {
-    fn start(self: Arc<Route>, client: TcpStream, server: TcpStream) {
+    fn start(self: Arc<Route>, client: TcpStream, server: TcpStream, shared: Arc<Shared>) {
         let (requests, answers) = (client.try_clone().unwrap(), server.try_clone().unwrap());
         let back = Arc::clone(&self);
-        thread::spawn(move || self.pass(requests, server, &self.loses_requests));
-        thread::spawn(move || back.pass(answers, client, &back.loses_answers));
+        thread::spawn(move || self.pass(requests, server, &self.loses_requests, || false));
+        let is_lost = move || shared.loses_this();
+        thread::spawn(move || back.pass(answers, client, &back.loses_answers, is_lost));
     }
 
-    fn pass(&self, mut from: TcpStream, mut to: TcpStream, loses: &AtomicBool) {
-        let mut bytes = [0; 4096];
+    fn pass(
+        &self,
+        mut from: TcpStream,
+        mut to: TcpStream,
+        loses: &AtomicBool,
+        is_lost: impl Fn() -> bool,
+    ) {
+        let mut bytes = [0; 16 * 1024];
         while let Ok(count @ 1..) = from.read(&mut bytes) {
-            if !loses.load(Ordering::SeqCst) && to.write_all(&bytes[..count]).is_err() {
+            if loses.load(Ordering::SeqCst) {
+                continue;
+            }
+            if is_lost() || to.write_all(&bytes[..count]).is_err() {
                 break;
             }
         }
