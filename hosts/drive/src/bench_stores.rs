@@ -3,7 +3,6 @@
 use crate::Found;
 use crate::applied::applied;
 use crate::cluster::Cluster;
-use crate::gateway::Gateway;
 use crate::site::Site;
 use krl::store::{Snapshot, Store};
 use krl::{Address, Client, Listener, Outcome, Server, SqliteStore, Value};
@@ -168,13 +167,16 @@ fn put_as_client(at: &Address, writer: u8, folder: &Path) -> Result<u64, Box<dyn
     Ok(applied)
 }
 
-/// Puts 40 bytes at one of ten keys, by a call for each.
+/// Puts 40 bytes at one of ten keys, by a call for each. The gateway takes both as base64.
 fn put_alone(node: SocketAddr, writer: u8) -> Result<u64, Box<dyn Error>> {
     const BYTES: &str = "MDEyMzQ1Njc4OTAxMjM0NTY3ODkwMTIzNDU2Nzg5MDEyMzQ1Njc4OQ==";
-    let mut gateway = Gateway::connect(node)?;
+    let (agent, url) = (ureq::agent(), format!("http://{node}/v3/kv/put"));
     let (end, mut done) = (Instant::now() + SLICE, 0);
     while Instant::now() < end {
-        gateway.put(&format!("{:04}", 100 * u64::from(writer) + done % 10), BYTES)?;
+        let key = format!("{:04}", 100 * u64::from(writer) + done % 10);
+        let body = format!("{{\"key\":\"{key}\",\"value\":\"{BYTES}\"}}");
+        // The connection is used again once the answer is read.
+        agent.post(&url).send_string(&body)?.into_string()?;
         done += 1;
     }
     Ok(done)

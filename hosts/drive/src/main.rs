@@ -19,7 +19,6 @@
 //! krl_drive large-stores FOLDER                                  fills stores of the greatest room
 //! krl_drive strings COUNT CHANGED                                 hands strings to both decoders
 //! krl_drive conform ADDRESS NUMBER LOCK_FILE SECONDS              is a client for hosts/conformance
-//! krl_drive bench FOLDER                                          takes measurements
 //! krl_drive lease-costs FOLDER                                    measures what leases cost
 //! krl_drive stores FOLDER ROUNDS                                  measures stores by turns
 //! krl_drive trips FOLDER [tcp|unix]                               measures next to an echo
@@ -32,7 +31,6 @@
 //! The status is 0 if all is well, 3 if something wrong was read or lost, and 1 if the
 //! drive itself failed.
 mod applied;
-mod bench;
 mod bench_stores;
 mod bystanders;
 mod cache;
@@ -45,7 +43,6 @@ mod failover;
 mod fault;
 mod ffi;
 mod frozen;
-mod gateway;
 mod grow;
 mod haste;
 mod history;
@@ -150,7 +147,6 @@ fn run(words: &[&str]) -> Found {
         ["conform", address, number, lock_file, seconds] => {
             conform::run(address, number, lock_file, seconds)
         }
-        ["bench", folder] => bench::run(Path::new(folder)),
         ["lease-costs", folder] => lease_costs::run(Path::new(folder)),
         ["stores", folder, rounds] => bench_stores::run(Path::new(folder), rounds.parse()?),
         ["trips", folder] => trips::run(Path::new(folder), "tcp"),

@@ -1,7 +1,7 @@
 //! A connection to the database, which is made when something is asked, and again once it has ended.
 use crate::connector::Connector;
 use crate::link::failure_of;
-use krl::fence::Failure;
+use krl::store::fence::Failure;
 use std::time::Duration;
 use tokio::runtime::{Builder, Runtime};
 use tokio::time::timeout;
