@@ -38,9 +38,6 @@ try_handles() {
 
 part_c() {
     make_library
-    # What krl.h declares stands where the Rust host takes it to stand.
-    expect 0 'the layout of krl.h' cc -std=c11 -Wall -Wextra -Werror -I "$top/crates/krl_embed" \
-        -c "$top/hosts/c/layout.c" -o "$work/layout.o"
     build_in_c "$top/hosts/c"
     expect 0 'the host in C, run' "$work/two_clients"
     diff "$work/log" "$top/hosts/c/two_clients.txt" >&2 || fail 'the host in C does not print two_clients.txt'

@@ -1,5 +1,5 @@
-//! The declarations of `krl.h`. Only tests compare the two: the layouts here and in
-//! `hosts/c/layout.c`, and the calls by running them.
+//! The declarations of `krl.h`. Only tests compare the two: the layouts by a C compiler, and the calls
+//! by running them.
 use crate::model::row::Row;
 use std::ffi::c_void;
 
@@ -329,7 +329,10 @@ unsafe extern "C" {
 #[cfg(test)]
 mod tests {
     use super::*;
-    use std::mem::{offset_of, size_of};
+    use krl_testing::header::compiles;
+    use krl_testing::layout;
+    use std::fmt::Write;
+    use std::mem::offset_of;
 
     #[test]
     fn the_library_has_the_version_of_this_crate() {
@@ -337,55 +340,43 @@ mod tests {
         assert_eq!(krl_version(), parts.fold(0, |version, part| version * 1000 + part));
     }
 
-    /// `hosts/c/layout.c` has the same numbers, and a C compiler compares them with `krl.h`.
+    /// Each struct is laid out as a C compiler lays that of `krl.h` out.
     #[test]
     fn layouts() {
-        assert_eq!([size_of::<Handle>(), offset_of!(Handle, at)], [16, 8]);
-        assert_eq!([size_of::<Reader>(), offset_of!(Reader, at)], [16, 8]);
-        assert_eq!([size_of::<Reply>(), offset_of!(Reply, detail)], [16, 8]);
-        assert_eq!(size_of::<Row>(), 48);
-        assert_eq!([offset_of!(Row, key), offset_of!(Row, value)], [0, 8]);
-        assert_eq!([size_of::<RawRecord>(), offset_of!(RawRecord, last)], [32, 16]);
-        assert_eq!([offset_of!(RawRecord, outcome), offset_of!(RawRecord, left)], [24, 28]);
-        assert_eq!([size_of::<RawRecorded>(), offset_of!(RawRecorded, record)], [48, 16]);
-        assert_eq!([size_of::<RawChange>(), offset_of!(RawChange, client)], [80, 8]);
-        assert_eq!([offset_of!(RawChange, number), offset_of!(RawChange, write)], [16, 24]);
-        assert_eq!([offset_of!(RawChange, outcome), offset_of!(RawChange, row)], [4, 32]);
-        assert_eq!([size_of::<Stepped>(), offset_of!(Stepped, change)], [96, 16]);
-        assert_eq!([size_of::<ClientState>(), offset_of!(ClientState, epoch)], [56, 16]);
-        assert_eq!([offset_of!(ClientState, seen), offset_of!(ClientState, lock)], [24, 32]);
-        assert_eq!([offset_of!(ClientState, write), offset_of!(ClientState, number)], [36, 40]);
-        assert_eq!(offset_of!(ClientState, outcome), 48);
-        assert_eq!([size_of::<Held>(), offset_of!(Held, range)], [24, 16]);
-        assert_eq!(offset_of!(Held, key), 20);
-        assert_eq!([size_of::<ServerState>(), offset_of!(ServerState, epoch)], [32, 16]);
-        assert_eq!(offset_of!(ServerState, phase), 24);
-        assert_eq!([size_of::<RawWaiting>(), offset_of!(RawWaiting, request)], [48, 16]);
-        assert_eq!([offset_of!(RawWaiting, point), offset_of!(RawWaiting, hi)], [24, 32]);
-        assert_eq!([offset_of!(RawWaiting, mode), offset_of!(RawWaiting, waits)], [40, 44]);
-        assert_eq!([size_of::<RawHeldSlot>(), offset_of!(RawHeldSlot, lo)], [40, 16]);
-        assert_eq!([offset_of!(RawHeldSlot, hi), offset_of!(RawHeldSlot, mode)], [24, 32]);
-        assert_eq!(offset_of!(RawHeldSlot, holds), 36);
-        assert_eq!([size_of::<RawPage>(), offset_of!(RawPage, next)], [32, 16]);
-        assert_eq!(offset_of!(RawPage, after), 24);
-        assert_eq!([size_of::<Lease>(), offset_of!(Lease, end)], [24, 0]);
-        assert_eq!([offset_of!(Lease, length), offset_of!(Lease, stamp)], [8, 16]);
-        assert_eq!([size_of::<LeasedScan>(), offset_of!(LeasedScan, waits)], [24, 16]);
-        assert_eq!([size_of::<Terms>(), offset_of!(Terms, drift)], [16, 8]);
-        assert_eq!([size_of::<RawSign>(), offset_of!(RawSign, stamp)], [40, 8]);
-        assert_eq!([offset_of!(RawSign, length), offset_of!(RawSign, over)], [16, 24]);
-        assert_eq!(offset_of!(RawSign, is_vouched), 32);
-        assert_eq!([size_of::<StoredLease>(), offset_of!(StoredLease, has_left)], [16, 8]);
-        assert_eq!(offset_of!(StoredLease, is_unleased), 12);
-        assert_eq!([size_of::<RawGrant>(), offset_of!(RawGrant, incarnation)], [48, 16]);
-        assert_eq!([offset_of!(RawGrant, stamp), offset_of!(RawGrant, length)], [24, 32]);
-        assert_eq!(offset_of!(RawGrant, is_there), 40);
-        assert_eq!([size_of::<LeaseShown>(), offset_of!(LeaseShown, registered)], [56, 16]);
-        assert_eq!([offset_of!(LeaseShown, end), offset_of!(LeaseShown, signer)], [24, 32]);
-        assert_eq!([offset_of!(LeaseShown, longest), offset_of!(LeaseShown, is_present)], [40, 48]);
-        assert_eq!(offset_of!(LeaseShown, is_unleased), 52);
-        assert_eq!(size_of::<LeaseTable>(), 4656);
-        assert_eq!([size_of::<RawPart>(), offset_of!(RawPart, lo)], [24, 8]);
-        assert_eq!(offset_of!(RawPart, hi), 16);
+        let header = concat!(env!("CARGO_MANIFEST_DIR"), "/../../crates/krl_embed/krl.h");
+        let mut program = format!("#include \"{header}\"\n");
+        layout!(program, Handle, "krl_handle", is_open at);
+        layout!(program, Reader, "krl_reader", is_open at);
+        layout!(program, Reply, "krl_reply", code detail);
+        layout!(program, Row, "krl_row", key);
+        let length = offset_of!(Row, value);
+        for (field, at) in [("length", length), ("bytes", length + size_of::<u64>())] {
+            let is_there = format!("offsetof(krl_row, {field}) == {at}");
+            writeln!(program, "_Static_assert({is_there}, \"{field}\");").unwrap();
+        }
+        layout!(program, RawRecord, "krl_record", client incarnation last outcome left);
+        layout!(program, RawRecorded, "krl_recorded", reply record);
+        layout!(program, RawChange, "krl_change", kind outcome client number write row);
+        layout!(program, Stepped, "krl_stepped", reply change);
+        layout!(program, ClientState, "krl_client_state", reply epoch seen lock write number
+            outcome);
+        layout!(program, Held, "krl_held", reply range key);
+        layout!(program, ServerState, "krl_server_state", reply epoch phase);
+        layout!(program, RawWaiting, "krl_waiting", reply request point hi mode waits);
+        layout!(program, RawHeldSlot, "krl_held_slot", reply lo hi mode holds);
+        layout!(program, RawPage, "krl_page", reply next after);
+        layout!(program, Lease, "krl_lease", end length stamp);
+        layout!(program, LeasedScan, "krl_leased_scan", found waits);
+        layout!(program, Terms, "krl_terms", length drift);
+        layout!(program, RawSign, "krl_sign", incarnation stamp length over is_vouched);
+        layout!(program, StoredLease, "krl_stored_lease", incarnation has_left is_unleased);
+        layout!(program, RawGrant, "krl_grant", reply incarnation stamp length is_there);
+        layout!(program, LeaseShown, "krl_lease_shown", reply registered end signer longest
+            is_present is_unleased);
+        layout!(program, LeaseTable, "krl_lease_table",);
+        layout!(program, RawPart, "krl_part", shard lo hi);
+        assert!(compiles(&program, true));
+        layout!(program, Terms, "krl_sign",);
+        assert!(!compiles(&program, false));
     }
 }
