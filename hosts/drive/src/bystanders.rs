@@ -3,14 +3,15 @@
 //! not follow the map, and is told by its server.
 use crate::Found;
 use crate::clients::Process;
-use crate::shards::{BOTH, LEFT, RIGHT};
-use krl::{Client, ErrorKind, Reader, Row, ShardMap};
+use crate::shards::{BOTH, Moments, Seen};
+use crate::waiting::until;
+use krl::{Client, ErrorKind, Reader, ShardMap};
 use std::error::Error;
 use std::io::{BufRead, BufReader};
 use std::path::Path;
 use std::process::{Command, ExitStatus, Stdio};
 use std::thread;
-use std::time::{Duration, Instant};
+use std::time::Duration;
 
 type Done<T = ()> = Result<T, Box<dyn Error>>;
 
@@ -58,16 +59,8 @@ impl Bystander {
 
     /// How it has ended, if it does so in time.
     pub fn ended(mut self) -> Done<ExitStatus> {
-        let end = Instant::now() + TIMEOUT;
-        loop {
-            if let Some(status) = self.0.ended()? {
-                return Ok(status);
-            }
-            if Instant::now() >= end {
-                return Err("a client that does not follow the map has not ended".into());
-            }
-            thread::sleep(REST);
-        }
+        let late = "a client that does not follow the map has not ended";
+        until(TIMEOUT, late, || Ok(self.0.ended()?))
     }
 }
 
@@ -113,35 +106,4 @@ fn read(
         are_right &= seen.note(&reader.read(BOTH)?, Moments::EachRow);
     }
     Ok(are_right)
-}
-
-/// Of how many moments rows are.
-#[derive(Clone, Copy, PartialEq, Eq)]
-enum Moments {
-    One,
-    EachRow,
-}
-
-/// The last numbers that were read at both keys.
-#[derive(Default)]
-struct Seen([u64; 2]);
-
-impl Seen {
-    /// Returns whether the rows are of no earlier moment than those before, and of so many moments.
-    fn note(&mut self, rows: &[Row], moments: Moments) -> bool {
-        let found: Vec<_> = rows.iter().map(|row| (row.key, row.value.to_u64())).collect();
-        let is_right = match found[..] {
-            [(LEFT, Some(left)), (RIGHT, Some(right))] => {
-                let is_one_moment = left == right || left == right + 1;
-                let [last_left, last_right] = std::mem::replace(&mut self.0, [left, right]);
-                let is_later = last_left <= left && last_right <= right;
-                is_later && (is_one_moment || moments == Moments::EachRow)
-            }
-            _ => false,
-        };
-        if !is_right {
-            eprintln!("WRONG: {found:?}");
-        }
-        is_right
-    }
 }

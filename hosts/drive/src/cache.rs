@@ -12,10 +12,11 @@ mod writer;
 
 use crate::Found;
 use crate::clients::{ENDING, Process, wait_for};
-use crate::kill::start_server;
 use crate::log::now;
 use crate::lossy::Draws;
 use crate::nodes::end_file;
+use crate::server::Server;
+use crate::waiting::until;
 use check::{Change, Read, Verdict, Written, check};
 use closed::address_of_reader;
 use faults::{Faults, Stopped};
@@ -25,7 +26,6 @@ use notes::{CountsByLanguage, noted};
 pub use reader::run as read;
 use readers::{Language, Programs};
 use std::error::Error;
-use std::net::SocketAddr;
 use std::ops::Range;
 use std::path::{Path, PathBuf};
 use std::sync::atomic::{AtomicBool, Ordering};
@@ -83,8 +83,8 @@ const SETTINGS: [&str; 14] = [
 ];
 
 /// Faults are this many milliseconds apart, and at most this many longer.
-const PAUSE: u64 = 300;
-const LONGER: u64 = 1500;
+const FAULT_PAUSE: u64 = 300;
+const MAX_EXTRA_PAUSE: u64 = 1500;
 
 /// At the end there are no more faults for this long.
 const CALM: Duration = Duration::from_secs(4);
@@ -92,8 +92,7 @@ const CALM: Duration = Duration::from_secs(4);
 struct Drive {
     folder: PathBuf,
     database: Database,
-    server_at: SocketAddr,
-    server: Process,
+    server: Server,
     programs: Programs,
     /// One of each language, in the order of [`Language::ALL`].
     readers: Vec<Process>,
@@ -137,7 +136,8 @@ impl Drive {
     fn start(folder: &Path, postgresql: &Path) -> Result<Drive, Box<dyn Error>> {
         let programs = Programs::make(folder)?;
         let server_at = free_address()?;
-        let server = start_krl(folder, server_at)?;
+        let lease = u64::try_from(LEASE.as_millis())?;
+        let server = Server::start(folder, &server_at.to_string(), "sqlite", lease)?;
         let servers = format!("krl.servers={server_at}");
         let settings: Vec<&str> = SETTINGS.into_iter().chain([servers.as_str()]).collect();
         let database = Database::start_from(postgresql, &settings);
@@ -148,7 +148,6 @@ impl Drive {
         let mut drive = Drive {
             folder: folder.to_path_buf(),
             database,
-            server_at,
             server,
             programs,
             readers: Vec::new(),
@@ -161,10 +160,6 @@ impl Drive {
         let readers = Language::ALL.into_iter().map(|language| drive.start_reader(language));
         drive.readers = readers.collect::<Result<_, _>>()?;
         Ok(drive)
-    }
-
-    fn start_server(&self) -> Result<Process, Box<dyn Error>> {
-        start_krl(&self.folder, self.server_at)
     }
 
     fn start_reader(&mut self, language: Language) -> std::io::Result<Process> {
@@ -183,7 +178,7 @@ impl Drive {
     fn befall_for(&mut self, time: Duration) -> Result<(), Box<dyn Error>> {
         let end = Instant::now() + time;
         while Instant::now() < end {
-            let pause = PAUSE + self.draws.below(LONGER);
+            let pause = FAULT_PAUSE + self.draws.below(MAX_EXTRA_PAUSE);
             self.tend_for(Duration::from_millis(pause))?;
             self.befall()?;
         }
@@ -247,17 +242,10 @@ impl Drive {
     /// What the database has in the end, when all prepared transactions have ended, and a read of
     /// the whole table.
     fn read_everything(&mut self) -> Result<(Written, Read), Box<dyn Error>> {
-        let end = Instant::now() + ENDING;
-        let sql = loop {
+        let sql = until(ENDING, "the prepared transactions do not end", || {
             self.tend_database();
-            if let Some(sql) = self.sql().filter(|sql| commit_prepared(sql, "").is_some()) {
-                break sql;
-            }
-            if Instant::now() > end {
-                return Err("the prepared transactions do not end".into());
-            }
-            thread::sleep(Duration::from_millis(20));
-        };
+            Ok(self.sql().filter(|sql| commit_prepared(sql, "").is_some()))
+        })?;
         let from = now();
         let rows = sql.try_query("SELECT id, token FROM item ORDER BY id")?;
         let rows = rows.iter().map(|row| (unsigned(row.get(0)), unsigned(row.get(1))));
@@ -287,10 +275,6 @@ fn judge(verdict: &Verdict, counts: &CountsByLanguage) -> Found {
         return Err("too little was done to judge anything".into());
     }
     Ok(true)
-}
-
-fn start_krl(folder: &Path, at: SocketAddr) -> Result<Process, Box<dyn Error>> {
-    start_server(folder, &at.to_string(), "sqlite", u64::try_from(LEASE.as_millis())?)
 }
 
 fn unsigned(number: i64) -> u64 {

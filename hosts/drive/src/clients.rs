@@ -1,8 +1,10 @@
 //! The clients of a drive: four processes that read and write, and are killed in turn. Next to them
 //! there may be an asker, which reads without being a client.
+use crate::Found;
 use crate::history::{History, Tally};
 use crate::log::{Note, notes};
 use crate::nodes::{ASKER, READERS, WRITERS, end_file};
+use crate::waiting::until;
 use krl::store::Snapshot;
 use std::collections::BTreeMap;
 use std::error::Error;
@@ -174,14 +176,9 @@ impl Clients {
 
     /// Waits until each client of another program has begun: it may take long to start.
     pub fn wait_for_others(&self) -> Result<(), Box<dyn Error>> {
-        let end = Instant::now() + ENDING;
-        while self.least_noted_by_others()? == Some(0) {
-            if end < Instant::now() {
-                return Err("another program notes nothing".into());
-            }
-            thread::sleep(Duration::from_millis(5));
-        }
-        Ok(())
+        until(ENDING, "another program notes nothing", || {
+            Ok((self.least_noted_by_others()? != Some(0)).then_some(()))
+        })
     }
 
     /// Waits until the clients have noted what a round has to come to, since this was called last.
@@ -211,11 +208,6 @@ impl Clients {
         Ok(noted)
     }
 
-    /// How many were killed.
-    pub fn killed(&self) -> usize {
-        self.killed
-    }
-
     /// The next client dies with its cache, its locks and a write on its way; another process takes
     /// its number.
     pub fn kill_next(&mut self) -> Result<(), Box<dyn Error>> {
@@ -239,7 +231,7 @@ impl Clients {
     }
 
     /// Lets the clients end. Returns how many hung or failed.
-    pub fn end(&mut self) -> Result<u64, Box<dyn Error>> {
+    fn end(&mut self) -> Result<u64, Box<dyn Error>> {
         std::fs::write(end_file(&self.folder), "")?;
         let (end, mut hung) = (Instant::now() + ENDING, 0);
         for (number, client) in &mut self.running {
@@ -251,18 +243,36 @@ impl Clients {
         Ok(hung)
     }
 
+    /// Lets the clients end, compares what they have read with what they wrote and with what the store
+    /// keeps, which `load` returns, and prints what was done and what that comes to. `down` has the times
+    /// in which no server ran, if they are known. Returns whether all is well in a drive of this many
+    /// rounds.
+    pub fn judge(
+        &mut self,
+        rounds: u64,
+        down: Option<&[(u64, u64)]>,
+        load: impl FnOnce() -> Result<Snapshot, Box<dyn Error>>,
+        done: &str,
+    ) -> Found {
+        let hung = self.end()?;
+        let tally = self.compare(&load()?, down)?;
+        println!("{done} and {} kills of clients: {tally}, {hung} processes hung", self.killed);
+        judge(&tally, rounds, hung)
+    }
+
     /// Compares what the clients read with what they wrote, and with what the store has. `down` has
     /// the times in which no server ran.
-    pub fn compare(
+    fn compare(
         &self,
         snapshot: &Snapshot,
-        down: &[(u64, u64)],
+        down: Option<&[(u64, u64)]>,
     ) -> Result<Tally, Box<dyn Error>> {
         let mut history = History::default();
         for number in WRITERS {
             history.add(&notes(&self.folder, number)?);
         }
-        let mut tally = Tally { answered: history.answered(), ..Tally::default() };
+        let (answered, while_down) = (history.answered(), down.map(|_| 0));
+        let mut tally = Tally { while_down, answered, ..Tally::default() };
         for number in READERS.into_iter().chain(WRITERS) {
             history.compare(&notes(&self.folder, number)?, down, &mut tally);
         }
@@ -302,11 +312,11 @@ pub fn command(program: PathBuf, words: &[&str], folder: &Path) -> Command {
 
 /// Whether all is well in a drive of this many rounds. One that did too little, or some of whose
 /// processes hung, shows nothing.
-pub fn judge(tally: &Tally, rounds: u64, hung: u64) -> crate::Found {
+fn judge(tally: &Tally, rounds: u64, hung: u64) -> Found {
     let did_enough = tally.answered >= LEAST_ANSWERED * rounds
         && tally.reads >= LEAST_READS * rounds
         && tally.asked.is_none_or(|asked| asked >= LEAST_ASKED * rounds)
-        && tally.while_down > 0;
+        && tally.while_down.is_none_or(|points| points > 0);
     match tally.wrong {
         0 if !did_enough => Err("too little was done to judge anything".into()),
         0 if hung > 0 => Err("some process did not end".into()),

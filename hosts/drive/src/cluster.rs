@@ -1,6 +1,7 @@
 //! Nodes of etcd, one at each place of a site.
 use crate::clients::{ENDING, Process};
 use crate::site::Site;
+use crate::waiting::until;
 use krl_etcd::{Credentials, Election, EtcdAddress};
 use std::error::Error;
 use std::net::SocketAddr;
@@ -8,7 +9,7 @@ use std::path::{Path, PathBuf};
 use std::process::Stdio;
 use std::rc::Rc;
 use std::thread;
-use std::time::{Duration, Instant};
+use std::time::Duration;
 
 /// How many nodes there are: one may die.
 pub const NODES: usize = 3;
@@ -63,14 +64,9 @@ impl Cluster {
 
     /// Waits until the nodes have elected a leader.
     fn wait(&self) -> Result<(), Box<dyn Error>> {
-        let end = Instant::now() + ENDING;
-        while let Err(error) = Election::leader(&self.address(), &Credentials::default()) {
-            if end < Instant::now() {
-                return Err(error.into());
-            }
-            thread::sleep(Duration::from_millis(50));
-        }
-        Ok(())
+        until(ENDING, "the nodes of etcd elect no leader", || {
+            Ok(Election::leader(&self.address(), &Credentials::default()).ok().map(drop))
+        })
     }
 
     /// The nodes, by place.

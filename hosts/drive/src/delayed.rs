@@ -1,7 +1,8 @@
 //! A network between clients and a server that loses nothing, and delays everything by the same
 //! time.
+use crate::lossy::start_joining;
 use std::io::{self, Read, Write};
-use std::net::{Shutdown, SocketAddr, TcpListener, TcpStream};
+use std::net::{Shutdown, SocketAddr, TcpStream};
 use std::sync::mpsc::{Receiver, Sender, channel};
 use std::thread;
 use std::time::{Duration, Instant};
@@ -15,17 +16,10 @@ type Due = (Instant, Vec<u8>);
 /// Starts the network, and returns where clients connect. Everything that is sent takes this long
 /// each way.
 pub fn start(server: SocketAddr, delay: Duration) -> io::Result<SocketAddr> {
-    let listener = TcpListener::bind("127.0.0.1:0")?;
-    let address = listener.local_addr()?;
-    thread::spawn(move || {
-        for client in listener.incoming().flatten() {
-            // If no server runs, the client's connection ends.
-            if let Ok(server) = TcpStream::connect(server) {
-                let _ = join(&client, &server, delay);
-            }
-        }
-    });
-    Ok(address)
+    start_joining(server, move |client, server, _| {
+        // A connection that can't be used ends.
+        let _ = join(&client, &server, delay);
+    })
 }
 
 fn join(client: &TcpStream, server: &TcpStream, delay: Duration) -> io::Result<()> {

@@ -5,13 +5,14 @@
 //! A server that was frozen or cut off continues after another one that serves. If the servers are
 //! *heedless*, no lease and no timeout ends them: then only the store distinguishes them.
 use crate::Found;
-use crate::clients::{Clients, ENDING, judge};
+use crate::clients::{Clients, ENDING};
 use crate::fault::Fault;
 use crate::log::{Note, notes, now};
 use crate::machines::Machines;
 use crate::nodes::WRITERS;
 use crate::site::Site;
 use crate::stand_bys::{ClientLeases, LEASE, StandBys};
+use crate::waiting::until;
 use krl::store::Store;
 use krl_etcd::{Credentials, EtcdStore};
 use krl_testing::etcd_relay::Holds;
@@ -23,7 +24,7 @@ use std::thread;
 use std::time::{Duration, Instant};
 
 /// How long the clients continue after a fault.
-const PAUSE: Duration = Duration::from_secs(1);
+const PAUSE_AFTER_FAULT: Duration = Duration::from_secs(1);
 
 /// How often the drive looks whether a write was answered.
 const LOOK_AT_ANSWERS: Duration = Duration::from_millis(50);
@@ -73,39 +74,27 @@ pub fn run(
     let rounds_of_faults = faults.into_iter().cycle().take(rounds);
     // If no server serves any more, what was read until then is compared all the same.
     let failed = drive.break_all(rounds_of_faults, &mut clients).err();
-    let hung = clients.end()?;
-    report(folder, &drive.noted)?;
     let down: Vec<(u64, u64)> = drive.noted.iter().map(|noted| (noted.from, noted.to)).collect();
-    let mut store = EtcdStore::open(&drive.servers.cluster.address(), &Credentials::default())?;
-    let tally = clients.compare(&store.load()?, &down)?;
-    println!(
-        "{} faults of servers {} and {} kills of clients: {} ranges read, {} of them without a \
-         number, {} keys in them compared, {} of them while no server served; {} writes answered; {} \
-         wrong, {hung} processes hung",
-        drive.noted.len(),
-        drive.servers.site,
-        clients.killed(),
-        tally.reads,
-        tally.asked.unwrap_or(0),
-        tally.points,
-        tally.while_down,
-        tally.answered,
-        tally.wrong
-    );
-    match failed {
-        Some(error) if tally.wrong == 0 => Err(error),
-        _ => judge(&tally, rounds as u64, hung),
+    let done = format!("{} faults of servers {}", drive.noted.len(), drive.servers.site);
+    let address = drive.servers.cluster.address();
+    let load = || {
+        report(folder, &drive.noted)?;
+        Ok(EtcdStore::open(&address, &Credentials::default())?.load()?)
+    };
+    match (clients.judge(rounds as u64, Some(&down), load, &done), failed) {
+        (Ok(true) | Err(_), Some(error)) => Err(error),
+        (found, _) => found,
     }
 }
 
 impl Drive {
     /// Lets the faults happen, and kills a client in a round of three.
     fn break_all(&mut self, faults: impl Iterator<Item = Fault>, clients: &mut Clients) -> Done {
-        thread::sleep(PAUSE);
+        thread::sleep(PAUSE_AFTER_FAULT);
         for (round, fault) in faults.enumerate() {
             self.round(round, fault)?;
             self.wait_for_a_write()?;
-            thread::sleep(PAUSE);
+            thread::sleep(PAUSE_AFTER_FAULT);
             if round % 3 == 1 {
                 clients.kill_next()?;
             }
@@ -144,7 +133,7 @@ impl Drive {
             Fault::Cross => self.cross(fault, old),
             Fault::Node => {
                 let from = now();
-                self.servers.cluster.kill_node(round, PAUSE)?;
+                self.servers.cluster.kill_node(round, PAUSE_AFTER_FAULT)?;
                 self.note(fault, from, from);
                 Ok(())
             }
@@ -238,12 +227,9 @@ impl Drive {
 
     /// Waits until a request of a server of these places is held, and returns whose.
     fn wait_until_held(&self, places: &[usize]) -> Result<usize, Box<dyn Error>> {
-        const LOOK: Duration = Duration::from_millis(5);
-        let looks = ASKED.as_millis() / LOOK.as_millis();
-        let held = (0..looks).find_map(|_| {
-            places.iter().copied().find(|place| self.servers.relay(*place).has_held(LOOK))
-        });
-        held.ok_or_else(|| format!("no server changes the store within {ASKED:?}").into())
+        let late = format!("no server changes the store within {ASKED:?}");
+        let has_held = |place: &usize| self.servers.relay(*place).has_held(Duration::ZERO);
+        until(ASKED, &late, || Ok(places.iter().copied().find(has_held)))
     }
 }
 

@@ -29,7 +29,7 @@ const LONGEST: Duration = Duration::from_secs(6);
 /// How long the patient one rests between two writes, and how long the hasty one between two looks
 /// at what it has in its cache.
 const REST: Duration = Duration::from_millis(5);
-const LOOK: Duration = Duration::from_micros(50);
+const CACHE_CHECK_INTERVAL: Duration = Duration::from_micros(50);
 
 /// How long a call waits.
 const TIMEOUT: Duration = Duration::from_secs(10);
@@ -107,8 +107,8 @@ impl Run {
         let mut longest = Duration::ZERO;
         while !self.is_over() {
             let begun = Instant::now();
-            thread::sleep(LOOK);
-            longest = longest.max(begun.elapsed().saturating_sub(LOOK));
+            thread::sleep(CACHE_CHECK_INTERVAL);
+            longest = longest.max(begun.elapsed().saturating_sub(CACHE_CHECK_INTERVAL));
         }
         longest
     }
@@ -116,7 +116,7 @@ impl Run {
     /// Waits until a range is called back.
     fn keep(&self, client: &Client, range: &Range<u64>) {
         while !self.is_over() && matches!(client.cached(range.clone()), Ok(Some(_))) {
-            thread::sleep(LOOK);
+            thread::sleep(CACHE_CHECK_INTERVAL);
         }
     }
 

@@ -8,6 +8,7 @@ use crate::log::Note;
 use krl::Value;
 use krl::store::Snapshot;
 use std::collections::HashMap;
+use std::fmt;
 
 #[derive(Clone, Copy, Debug)]
 struct Written {
@@ -32,12 +33,26 @@ pub struct Tally {
     pub asked: Option<u64>,
     /// The points of them that were compared: keys of the writers, with an entry or without one.
     pub points: u64,
-    /// Those that were read while no server ran.
-    pub while_down: u64,
+    /// Those that were read while no server ran, if it is known when that was.
+    pub while_down: Option<u64>,
     /// The writes that were applied and answered.
     pub answered: u64,
     /// What is wrong.
     pub wrong: u64,
+}
+
+impl fmt::Display for Tally {
+    fn fmt(&self, f: &mut fmt::Formatter<'_>) -> fmt::Result {
+        write!(f, "{} ranges read", self.reads)?;
+        if let Some(asked) = self.asked {
+            write!(f, ", {asked} of them without a number")?;
+        }
+        write!(f, ", {} keys in them compared", self.points)?;
+        if let Some(while_down) = self.while_down {
+            write!(f, ", {while_down} of them while no server ran")?;
+        }
+        write!(f, "; {} writes answered; {} wrong", self.answered, self.wrong)
+    }
 }
 
 impl History {
@@ -85,16 +100,20 @@ impl History {
         value.is_none()
     }
 
-    /// Compares one client's reads with the writes. `down` has the times in which no server ran.
-    pub fn compare(&self, notes: &[Note], down: &[(u64, u64)], tally: &mut Tally) {
+    /// Compares one client's reads with the writes. `down` has the times in which no server ran, if they
+    /// are known.
+    pub fn compare(&self, notes: &[Note], down: Option<&[(u64, u64)]>, tally: &mut Tally) {
         for note in notes {
             let Note::Read { from, to, lo, hi, rows } = note else { continue };
             tally.reads += 1;
-            let is_down = down.iter().any(|(begin, end)| begin < from && to < end);
+            let is_down = |down: &[(u64, u64)]| down.iter().any(|it| it.0 < *from && *to < it.1);
+            let is_down = down.map(is_down);
             let found: HashMap<u64, u64> = rows.iter().copied().collect();
             for key in self.writes.keys().filter(|key| (lo..hi).contains(key)) {
                 tally.points += 1;
-                tally.while_down += u64::from(is_down);
+                if let Some(is_down) = is_down {
+                    *tally.while_down.get_or_insert(0) += u64::from(is_down);
+                }
                 let value = found.get(key).copied();
                 if !self.allows(*key, value, *from, *to) {
                     tally.wrong += 1;
@@ -155,7 +174,7 @@ mod tests {
         ]);
         let read = Note::Read { from, to, lo: 0, hi: 10, rows: rows.to_vec() };
         let mut tally = Tally::default();
-        history.compare(&[read], &[], &mut tally);
+        history.compare(&[read], None, &mut tally);
         assert_eq!((tally.reads, tally.points, history.answered()), (1, 1, 2));
         tally.wrong
     }

@@ -2,25 +2,21 @@
 //! they read and write. An asker reads what they write, unless the network loses messages: it sends a
 //! question again after seconds only.
 use crate::Found;
-use crate::clients::{Clients, ENDING, Others, Process, judge, this};
+use crate::clients::{Clients, Others};
 use crate::log::now;
 use crate::lossy::{self, Carrier};
-use crate::nodes::store_file;
-use krl::SqliteStore;
-use krl::store::Store;
+use crate::server::{Server, TLS};
 use krl_testing::ports::free_address;
 use std::error::Error;
-use std::net::{SocketAddr, TcpStream};
+use std::net::SocketAddr;
 use std::path::{Path, PathBuf};
 use std::thread;
-use std::time::{Duration, Instant};
+use std::time::Duration;
 
 struct Drive {
-    folder: PathBuf,
-    store: String,
-    server_at: SocketAddr,
-    net: Net,
-    server: Process,
+    /// How much longer a round is than over plain TCP.
+    longer: u32,
+    server: Server,
     clients: Clients,
 }
 
@@ -30,9 +26,6 @@ struct Net {
     carrier: Carrier,
     is_lossy: bool,
 }
-
-/// How an address of TLS begins.
-const TLS: &str = "tls:";
 
 /// How many milliseconds a lease has if there are some: a killed client starts again sooner.
 const LEASE: u64 = 2000;
@@ -66,41 +59,25 @@ pub fn run(folder: &Path, rounds: u64, store: &str, net: &str) -> Found {
 }
 
 fn drive(folder: &Path, rounds: u64, store: &str, net: &str, others: Others) -> Found {
-    std::fs::create_dir_all(folder)?;
     let server_at = free_address()?;
     let net = Net::of_name(net)?;
     let clients_at = net.start(server_at)?;
-    let server = start_server(folder, &net.address(server_at), store, net.lease())?;
+    let server = Server::start(folder, &net.address(server_at), store, net.lease())?;
     let mut clients = Clients::start_beside(others, folder, net.address(clients_at))?;
     if !net.is_lossy {
         clients.start_asker()?;
     }
-    let (folder, store) = (folder.to_path_buf(), store.to_string());
-    let mut drive = Drive { folder, store, server_at, net, server, clients };
-    drive.clients.wait_for_others()?;
+    clients.wait_for_others()?;
+    let mut drive = Drive { longer: net.longer(), server, clients };
     let down = drive.kill_for(rounds)?;
-    let hung = drive.clients.end()?;
-    drive.server.kill()?;
-    let snapshot = SqliteStore::open(store_file(&drive.folder))?.load()?;
-    let tally = drive.clients.compare(&snapshot, &down)?;
-    println!(
-        "{} kills of the server and {} of clients: {} ranges read, {} of them without a number, {} \
-         keys in them compared, {} of them while no server ran; {} writes answered; {} wrong, {hung} \
-         processes hung",
-        down.len(),
-        drive.clients.killed(),
-        tally.reads,
-        tally.asked.unwrap_or(0),
-        tally.points,
-        tally.while_down,
-        tally.answered,
-        tally.wrong
-    );
-    let least = drive.clients.least_noted_by_others()?;
+    let done = format!("{} kills of the server", down.len());
+    let Drive { server, clients, .. } = &mut drive;
+    let found = clients.judge(rounds, Some(&down), || server.end(), &done);
+    let least = clients.least_noted_by_others()?;
     if least.is_some_and(|least| least < LEAST_BY_OTHERS) {
         return Err("another program did too little to judge anything".into());
     }
-    judge(&tally, rounds, hung)
+    found
 }
 
 impl Net {
@@ -145,52 +122,24 @@ impl Net {
     }
 }
 
-/// Starts a server whose leases have this many milliseconds, or that has none: then it is 0.
-pub fn start_server(
-    folder: &Path,
-    address: &str,
-    store: &str,
-    lease: u64,
-) -> Result<Process, Box<dyn Error>> {
-    let mut command = this(&["server", address], folder)?;
-    let server = Process::start(command.arg(store).arg(lease.to_string()))?;
-    let at = address.trim_start_matches(TLS).parse()?;
-    wait_for_server(at)?;
-    Ok(server)
-}
-
-/// Waits until a server takes connections.
-fn wait_for_server(at: SocketAddr) -> Result<(), Box<dyn Error>> {
-    let end = Instant::now() + ENDING;
-    while TcpStream::connect(at).is_err() {
-        if end < Instant::now() {
-            return Err("the server does not come up".into());
-        }
-        thread::sleep(Duration::from_millis(2));
-    }
-    Ok(())
-}
-
 impl Drive {
     /// Kills the server once in each round, and a client in two of five. Returns when no server
     /// ran.
     fn kill_for(&mut self, rounds: u64) -> Result<Vec<(u64, u64)>, Box<dyn Error>> {
         let mut down = Vec::new();
-        let longer = self.net.longer();
         // Time for the first rows.
         thread::sleep(Duration::from_millis(500));
         for round in 0..rounds {
-            thread::sleep(Duration::from_millis(200 + 37 * (round % 5)) * longer);
+            thread::sleep(Duration::from_millis(200 + 37 * (round % 5)) * self.longer);
             self.clients.wait_for_a_round()?;
-            if self.server.ended()?.is_some() {
+            if self.server.process.ended()?.is_some() {
                 return Err("the server ended by itself".into());
             }
-            self.server.kill()?;
+            self.server.process.kill()?;
             let from = now();
             thread::sleep(Duration::from_millis(if round % 3 == 0 { 100 } else { 5 }));
             let to = now();
-            let address = self.net.address(self.server_at);
-            self.server = start_server(&self.folder, &address, &self.store, self.net.lease())?;
+            self.server.start_again()?;
             down.push((from, to));
             if matches!(round % 5, 1 | 3) {
                 thread::sleep(Duration::from_millis(50));

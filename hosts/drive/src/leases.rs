@@ -1,16 +1,13 @@
 //! The drive of leases: clients and servers are stopped, continue, and die, and no operator is
 //! there.
 use crate::Found;
-use crate::clients::{Clients, Process, judge};
-use crate::kill::start_server;
+use crate::clients::Clients;
 use crate::lossy::{self, Carrier};
-use crate::nodes::{READERS, store_file};
-use krl::SqliteStore;
-use krl::store::Store;
+use crate::nodes::READERS;
+use crate::server::Server;
 use krl_testing::ports::free_address;
 use std::error::Error;
-use std::net::SocketAddr;
-use std::path::{Path, PathBuf};
+use std::path::Path;
 use std::thread;
 use std::time::Duration;
 
@@ -24,9 +21,7 @@ const GO_ON: &str = "-CONT";
 const DYING: [u8; 4] = [1, 0, 3, 2];
 
 struct Drive {
-    folder: PathBuf,
-    server_at: SocketAddr,
-    server: Process,
+    server: Server,
     clients: Clients,
 }
 
@@ -58,33 +53,25 @@ const FAULTS: [Fault; 6] = [
 
 /// Makes one fault after the other, and compares what was read with what was written.
 pub fn run(folder: &Path, rounds: u64, net: &str) -> Found {
-    std::fs::create_dir_all(folder)?;
     let server_at = free_address()?;
     let clients_at = match net {
         "direct" => server_at,
         "lossy" => lossy::start(server_at, Carrier::Plain)?,
         _ => return Err("a network is direct or lossy".into()),
     };
-    let server = start_server(folder, &server_at.to_string(), "sqlite", LEASE)?;
+    let server = Server::start(folder, &server_at.to_string(), "sqlite", LEASE)?;
     let clients = Clients::start(folder, clients_at.to_string())?;
-    let mut drive = Drive { folder: folder.to_path_buf(), server_at, server, clients };
+    let mut drive = Drive { server, clients };
     sleep(700);
     for round in 0..rounds {
         drive.round(round)?;
         sleep(300 + 37 * (round % 5));
     }
     sleep(2 * LEASE);
-    let hung = drive.clients.end()?;
-    drive.server.kill()?;
-    let snapshot = SqliteStore::open(store_file(folder))?.load()?;
+    let done = format!("{rounds} faults with leases of {LEASE} ms");
+    let Drive { server, clients } = &mut drive;
     // A server is down only for moments, which nobody notes.
-    let tally = drive.clients.compare(&snapshot, &[(0, u64::MAX)])?;
-    println!(
-        "{rounds} faults with leases of {LEASE} ms: {} ranges read, {} keys in them compared; {} \
-         writes answered; {} wrong, {hung} processes hung",
-        tally.reads, tally.points, tally.answered, tally.wrong
-    );
-    judge(&tally, rounds, hung)
+    clients.judge(rounds, None, || server.end(), &done)
 }
 
 impl Drive {
@@ -106,9 +93,9 @@ impl Drive {
                 Ok(self.clients.start_one(dying)?)
             }
             Fault::ServerStop => {
-                self.server.signal(STOP)?;
+                self.server.process.signal(STOP)?;
                 sleep(2 * LEASE);
-                self.server.signal(GO_ON)
+                self.server.process.signal(GO_ON)
             }
             Fault::ShortStop => self.stop_client(dying, LEASE + 30 * (round % 5) - 60),
             Fault::BothDie => {
@@ -121,9 +108,8 @@ impl Drive {
     }
 
     fn restart_server(&mut self) -> Result<(), Box<dyn Error>> {
-        self.server.kill()?;
-        self.server = start_server(&self.folder, &self.server_at.to_string(), "sqlite", LEASE)?;
-        Ok(())
+        self.server.process.kill()?;
+        self.server.start_again()
     }
 
     fn stop_client(&mut self, number: u8, milliseconds: u64) -> Result<(), Box<dyn Error>> {

@@ -28,16 +28,26 @@ struct Ends([TcpStream; 2]);
 
 /// Starts the network, and returns where clients connect.
 pub fn start(server: SocketAddr, carrier: Carrier) -> io::Result<SocketAddr> {
+    start_joining(server, move |client, server, seed| {
+        thread::spawn(move || {
+            // If a handshake fails the client's connection ends too.
+            let _ = join(client, server, carrier, seed);
+        });
+    })
+}
+
+/// Starts a network that joins each connection of a client to one of its own to the server, and
+/// counts them from 1. If no server runs, the client's connection ends.
+pub fn start_joining(
+    server: SocketAddr,
+    join: impl Fn(TcpStream, TcpStream, u64) + Send + 'static,
+) -> io::Result<SocketAddr> {
     let listener = TcpListener::bind("127.0.0.1:0")?;
     let address = listener.local_addr()?;
     thread::spawn(move || {
-        for (seed, client) in (1..).zip(listener.incoming().flatten()) {
-            // If no server runs, the client's connection ends.
+        for (number, client) in (1..).zip(listener.incoming().flatten()) {
             if let Ok(server) = TcpStream::connect(server) {
-                thread::spawn(move || {
-                    // If a handshake fails the client's connection ends too.
-                    let _ = join(client, server, carrier, seed);
-                });
+                join(client, server, number);
             }
         }
     });

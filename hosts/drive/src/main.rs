@@ -59,6 +59,7 @@ mod nodes;
 mod reaches;
 mod resharded;
 mod sealed;
+mod server;
 mod shards;
 mod site;
 mod stand_bys;
@@ -67,6 +68,7 @@ mod strings;
 mod takeover;
 mod trips;
 mod unsynced;
+mod waiting;
 
 // What `krl`'s declarations take from it.
 mod model {

@@ -10,6 +10,7 @@ use crate::Found;
 use crate::bystanders::{Bystander, FOLLOWER, STAYING};
 use crate::resharded::{Change, ShardServer, Table, shell};
 use crate::shards::{BOUND, LEFT, READERS, RIGHT, Run, WRITER};
+use crate::waiting::until;
 use krl::store::{KeptShard, Snapshot};
 use krl::{Shard, ShardMap, SqliteStore, Value};
 use std::error::Error;
@@ -328,12 +329,8 @@ fn start(command: &mut Command) -> std::io::Result<Child> {
 
 /// Waits until the writer has written some numbers more.
 fn wait_for_writes(run: &Run) -> Done {
-    let (begun, end) = (run.last(), Instant::now() + TIMEOUT);
-    while run.last() < begun + LEAST_WRITES {
-        if Instant::now() >= end {
-            return Err("the clients do not come to anything".into());
-        }
-        thread::sleep(Duration::from_millis(20));
-    }
-    Ok(())
+    let begun = run.last();
+    until(TIMEOUT, "the clients do not come to anything", || {
+        Ok((run.last() >= begun + LEAST_WRITES).then_some(()))
+    })
 }

@@ -1,6 +1,7 @@
 //! What a longer reach of a server saves a reader, and what it costs a writer, run by hand: servers
 //! of several reaches in one process, by turns, so that a busy machine is as busy for each.
 use crate::Found;
+use crate::trips::median;
 use krl::operate::Reach;
 use krl::{Client, Listener, MemoryStore, Row, Server, Value};
 use std::error::Error;
@@ -137,10 +138,4 @@ fn timed_read(client: &Client, keys: Range<u64>) -> Done<Duration> {
 fn expect(count: usize, keys: &Range<u64>) -> Done<()> {
     let is_all = count as u64 == keys.end - keys.start;
     if is_all { Ok(()) } else { Err(format!("{keys:?} has {count} rows").into()) }
-}
-
-/// The middle time.
-fn median(mut times: Vec<Duration>) -> Duration {
-    times.sort_unstable();
-    times[times.len() / 2]
 }

@@ -5,14 +5,12 @@
 //! left number is the right one, or one more; and no scan of both may find anything else.
 use crate::Found;
 use crate::applied::applied;
-use crate::clients::Process;
-use crate::kill::start_server;
-use krl::{Client, Outcome, Row, Shard, ShardMap, Value};
+use crate::server::Server;
+use krl::{Client, Outcome, Row, Servers, Shard, ShardMap, Value};
 use krl_testing::ports::free_address;
 use std::error::Error;
-use std::net::SocketAddr;
 use std::ops::Range;
-use std::path::{Path, PathBuf};
+use std::path::Path;
 use std::sync::atomic::{AtomicBool, AtomicU64, Ordering};
 use std::thread;
 use std::time::Duration;
@@ -35,13 +33,6 @@ const REST: Duration = Duration::from_millis(2);
 const LEAST_WRITES: u64 = 50;
 const LEAST_SCANS: u64 = 1000;
 const LEAST_READS: u64 = 50;
-
-/// A server of a shard, and where its store is.
-struct ShardServer {
-    at: SocketAddr,
-    folder: PathBuf,
-    process: Process,
-}
 
 /// What the threads of a run share.
 #[derive(Default)]
@@ -73,8 +64,9 @@ impl Drop for Over<'_> {
 
 pub fn run(folder: &Path, seconds: u64, kills: u64) -> Found {
     let mut servers = [start(&folder.join("left"))?, start(&folder.join("right"))?];
-    let shard = |(first, server): (u64, &ShardServer)| Shard::new(first, server.at);
-    let map = ShardMap::new([0, BOUND].into_iter().zip(&servers).map(shard).collect())?;
+    let at = |server: &Server| server.address().parse::<Servers>();
+    let map =
+        ShardMap::new(vec![Shard::new(0, at(&servers[0])?), Shard::new(BOUND, at(&servers[1])?)])?;
     let join = |number| Client::builder(map.clone(), number, folder).timeout(5 * TIMEOUT).join();
     let writer = join(WRITER)?;
     let readers = [join(READERS[0])?, join(READERS[1])?];
@@ -94,25 +86,18 @@ fn refused() -> krl::Error {
     krl::ErrorKind::Stopped.into()
 }
 
-fn start(folder: &Path) -> Result<ShardServer, Box<dyn Error>> {
-    std::fs::create_dir_all(folder)?;
-    let at = free_address()?;
-    Ok(ShardServer { at, folder: folder.to_path_buf(), process: start_process(at, folder)? })
-}
-
-fn start_process(at: SocketAddr, folder: &Path) -> Result<Process, Box<dyn Error>> {
-    start_server(folder, &at.to_string(), "sqlite", 0)
+fn start(folder: &Path) -> Result<Server, Box<dyn Error>> {
+    Server::start(folder, &free_address()?.to_string(), "sqlite", 0)
 }
 
 /// Kills a server each time another part of the time has passed, one after the other.
-fn kill_for(servers: &mut [ShardServer], seconds: u64, kills: u64) -> Result<(), Box<dyn Error>> {
+fn kill_for(servers: &mut [Server], seconds: u64, kills: u64) -> Result<(), Box<dyn Error>> {
     let part = Duration::from_secs(seconds) / u32::try_from(kills + 1)?;
     for server in (0..servers.len()).cycle().take(usize::try_from(kills)?) {
         thread::sleep(part);
-        let ShardServer { at, folder, process } = &mut servers[server];
-        process.kill()?;
+        servers[server].process.kill()?;
         thread::sleep(Duration::from_millis(100));
-        *process = start_process(*at, folder)?;
+        servers[server].start_again()?;
     }
     thread::sleep(part);
     Ok(())
@@ -179,12 +164,12 @@ impl Run {
 
     /// Scans only the caches, until the run is over.
     fn scan_again(&self, client: &Client) -> Count {
-        let (mut count, mut last) = (Count::default(), [0, 0]);
+        let (mut count, mut seen) = (Count::default(), Seen::default());
         while self.goes_on() {
             let answered = self.answered.load(Ordering::SeqCst);
             if let Ok(Some(rows)) = client.cached(BOTH) {
                 count.cached += 1;
-                self.check(&rows, answered, &mut last);
+                self.check(&rows, answered, &mut seen);
             } else {
                 thread::yield_now();
             }
@@ -193,12 +178,12 @@ impl Run {
     }
 
     fn read_again(&self, client: &Client) -> Result<Count, krl::Error> {
-        let (mut count, mut last) = (Count::default(), [0, 0]);
+        let (mut count, mut seen) = (Count::default(), Seen::default());
         while self.goes_on() {
             let before = self.answered.load(Ordering::SeqCst);
             if let Some(rows) = self.answered(client.read(BOTH))? {
                 count.read += 1;
-                self.check(&rows, before, &mut last);
+                self.check(&rows, before, &mut seen);
             }
             thread::sleep(Duration::from_millis(1));
         }
@@ -207,21 +192,12 @@ impl Run {
 
     /// The rows have to be of one moment of the call, before which this number was answered and no
     /// greater one than `begun` was written; and not of an earlier one than the rows before.
-    fn check(&self, rows: &[Row], answered: u64, last: &mut [u64; 2]) {
+    fn check(&self, rows: &[Row], answered: u64, seen: &mut Seen) {
         let begun = self.begun.load(Ordering::SeqCst);
-        let found: Vec<_> = rows.iter().map(|row| (row.key, row.value.to_u64())).collect();
-        let is_right = match found[..] {
-            [(LEFT, Some(left)), (RIGHT, Some(right))] => {
-                let is_one_moment = left == right || left == right + 1;
-                let is_of_the_call = answered <= right && left <= begun;
-                let is_later = last[0] <= left && last[1] <= right;
-                *last = [left, right];
-                is_one_moment && is_of_the_call && is_later
-            }
-            _ => false,
-        };
-        if !is_right {
-            eprintln!("WRONG: {found:?} after {answered} was answered, and {begun} begun");
+        let is_right = seen.note(rows, Moments::One);
+        let Seen([left, right]) = *seen;
+        if !is_right || right < answered || begun < left {
+            eprintln!("WRONG: {left} and {right} after {answered} was answered, and {begun} begun");
             self.wrong.fetch_add(1, Ordering::SeqCst);
         }
     }
@@ -255,5 +231,36 @@ impl Run {
                 _ => Err(refused),
             },
         }
+    }
+}
+
+/// Of how many moments rows are.
+#[derive(Clone, Copy, PartialEq, Eq)]
+pub enum Moments {
+    One,
+    EachRow,
+}
+
+/// The last numbers that were read at both keys.
+#[derive(Default)]
+pub struct Seen([u64; 2]);
+
+impl Seen {
+    /// Returns whether the rows are of no earlier moment than those before, and of so many moments.
+    pub fn note(&mut self, rows: &[Row], moments: Moments) -> bool {
+        let found: Vec<_> = rows.iter().map(|row| (row.key, row.value.to_u64())).collect();
+        let is_right = match found[..] {
+            [(LEFT, Some(left)), (RIGHT, Some(right))] => {
+                let is_one_moment = left == right || left == right + 1;
+                let [last_left, last_right] = std::mem::replace(&mut self.0, [left, right]);
+                let is_later = last_left <= left && last_right <= right;
+                is_later && (is_one_moment || moments == Moments::EachRow)
+            }
+            _ => false,
+        };
+        if !is_right {
+            eprintln!("WRONG: {found:?}");
+        }
+        is_right
     }
 }

@@ -3,6 +3,7 @@
 use crate::clients::{ENDING, Process};
 use crate::cluster::{self, Cluster, NODES};
 use crate::site::Site;
+use crate::waiting::until;
 use krl::Address;
 use krl_etcd::{Credentials, Election};
 use krl_testing::etcd_relay::Relay;
@@ -12,8 +13,7 @@ use std::net::{SocketAddr, TcpStream};
 use std::path::{Path, PathBuf};
 use std::process::Stdio;
 use std::rc::Rc;
-use std::thread;
-use std::time::{Duration, Instant};
+use std::time::Duration;
 
 /// How many seconds a server may be silent.
 pub const LEASE: u64 = 2;
@@ -39,9 +39,6 @@ impl ClientLeases {
 
 /// The port of a server on a machine of its own.
 const PORT: u16 = 7400;
-
-/// How often the drive looks who serves.
-const LOOK: Duration = Duration::from_millis(10);
 
 /// How long it waits for a connection.
 const CONNECT: Duration = Duration::from_millis(100);
@@ -134,14 +131,7 @@ impl StandBys {
         last: usize,
         is_right: impl Fn(usize) -> bool,
     ) -> Result<usize, Box<dyn Error>> {
-        let end = Instant::now() + ENDING;
-        while Instant::now() < end {
-            if let Some(place) = self.leader(last).filter(|place| is_right(*place)) {
-                return Ok(place);
-            }
-            thread::sleep(LOOK);
-        }
-        Err("no server serves".into())
+        until(ENDING, "no server serves", || Ok(self.leader(last).filter(|place| is_right(*place))))
     }
 
     /// The server that has the place, if it listens.

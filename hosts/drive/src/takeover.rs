@@ -3,8 +3,8 @@
 use crate::Found;
 use crate::applied::applied;
 use crate::clients::{Process, this};
-use crate::kill::start_server;
 use crate::leases::{LEASE, sleep};
+use crate::server::Server;
 use krl::{Address, Client, Outcome, Value};
 use krl_testing::ports::free_address;
 use std::error::Error;
@@ -80,9 +80,8 @@ impl Holder {
 
 /// Stops and kills holders, and measures how long the other one waits.
 pub fn run(folder: &Path, rounds: u64) -> Found {
-    std::fs::create_dir_all(folder)?;
     let at = free_address()?;
-    let _server = start_server(folder, &at.to_string(), "sqlite", LEASE)?;
+    let _server = Server::start(folder, &at.to_string(), "sqlite", LEASE)?;
     let address = Address::Tcp(at);
     let other = Client::join(&address, 1, folder.join("client-1.lock"))?;
     applied(other.insert(10, Value::from(0))?)?;

@@ -91,7 +91,7 @@ fn echo<S: Read + std::io::Write + Send + 'static>(mut ours: S, mut theirs: S) -
 }
 
 /// The middle time.
-fn median(mut times: Vec<Duration>) -> Duration {
+pub fn median(mut times: Vec<Duration>) -> Duration {
     times.sort_unstable();
     times[times.len() / 2]
 }

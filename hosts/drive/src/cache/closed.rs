@@ -2,11 +2,11 @@
 use super::Drive;
 use crate::clients::ENDING;
 use crate::log::now;
+use crate::waiting::until;
 use krl_testing::database::Sql;
 use std::error::Error;
 use std::ops::Range;
-use std::thread;
-use std::time::{Duration, Instant};
+use std::time::Duration;
 
 /// The role as which the readers connect.
 const READER: &str = "reader";
@@ -72,16 +72,12 @@ impl Drive {
     }
 
     /// Runs statements again and again until they succeed, whatever befalls the database.
-    fn repeat(&mut self, statements: &[&str], connect: impl Fn(&Drive) -> Option<Sql>) -> Done {
-        let end = Instant::now() + ENDING;
-        while !connect(self).is_some_and(|sql| are_run(&sql, statements)) {
-            if Instant::now() > end {
-                return Err(format!("it does not succeed: {}", statements.join("; ")).into());
-            }
+    pub fn repeat(&mut self, statements: &[&str], connect: impl Fn(&Drive) -> Option<Sql>) -> Done {
+        let late = format!("it does not succeed: {}", statements.join("; "));
+        until(ENDING, &late, || {
             self.tend()?;
-            thread::sleep(Duration::from_millis(20));
-        }
-        Ok(())
+            Ok(connect(self).is_some_and(|sql| are_run(&sql, statements)).then_some(()))
+        })
     }
 
     fn sql_of_another(&self) -> Option<Sql> {

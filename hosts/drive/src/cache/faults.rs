@@ -1,12 +1,11 @@
 //! What befalls the processes of the drive.
 use super::readers::Language;
 use super::{Drive, LEASE};
-use crate::clients::{ENDING, send_signal};
+use crate::clients::send_signal;
 use crate::lossy::Draws;
 use std::collections::BTreeMap;
 use std::error::Error;
 use std::fmt;
-use std::thread;
 use std::time::{Duration, Instant};
 
 /// How long a cluster stays suspended, after all leases have ended.
@@ -142,11 +141,11 @@ impl Drive {
             Fault::RenameDatabase => self.rename_database()?,
             Fault::CloseRole => self.close_role()?,
             Fault::KillServer => {
-                self.server.kill()?;
-                self.server = self.start_server()?;
+                self.server.process.kill()?;
+                self.server.start_again()?;
             }
             Fault::StopServer => {
-                let server = self.server.id();
+                let server = self.server.process.id();
                 self.stop(server)?;
             }
             Fault::Suspend => self.suspend()?,
@@ -180,19 +179,11 @@ impl Drive {
 
     /// Suspends the cluster while krl's server is away, and lets it continue.
     fn suspend(&mut self) -> Done {
-        self.server.kill()?;
+        self.server.process.kill()?;
         // It is not suspended if the database is away.
         let _ = self.sql().map(|sql| sql.try_run("SELECT krl.suspend(true)"));
         self.tend_for(SUSPENDED)?;
-        self.server = self.start_server()?;
-        let end = Instant::now() + ENDING;
-        while self.sql().is_none_or(|sql| sql.try_run("SELECT krl.resume()").is_err()) {
-            if Instant::now() > end {
-                return Err("the cluster does not continue after its suspension".into());
-            }
-            self.tend()?;
-            thread::sleep(Duration::from_millis(20));
-        }
-        Ok(())
+        self.server.start_again()?;
+        self.repeat(&["SELECT krl.resume()"], Drive::sql)
     }
 }

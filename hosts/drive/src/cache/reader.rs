@@ -17,7 +17,7 @@ use std::time::{Duration, Instant};
 
 /// For so long a thread reads the same keys again and again, and pauses between two reads.
 const BURST: Duration = Duration::from_millis(30);
-const PAUSE: Duration = Duration::from_micros(100);
+const READ_PAUSE: Duration = Duration::from_micros(100);
 
 /// The pause after a read that failed.
 const AWAY: Duration = Duration::from_millis(20);
@@ -150,7 +150,7 @@ impl Reader {
                 notes.read(&read)?;
                 first = Some(read);
             }
-            thread::sleep(PAUSE);
+            thread::sleep(READ_PAUSE);
         }
         last.map_or(Ok(()), |last| notes.read(&last))
     }
