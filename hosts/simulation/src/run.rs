@@ -51,7 +51,7 @@ impl Shows {
 }
 
 /// What was done.
-#[derive(Debug)]
+#[derive(Debug, Default)]
 pub struct Done {
     /// The first seed.
     pub first: u64,
@@ -70,18 +70,6 @@ pub struct Done {
 }
 
 impl Done {
-    fn new() -> Done {
-        Done {
-            first: 0,
-            worlds: 0,
-            events: 0,
-            time: Duration::ZERO,
-            took: Duration::ZERO,
-            counts: Counts::default(),
-            wrong: None,
-        }
-    }
-
     fn add(&mut self, seed: u64, report: &Report) {
         if self.worlds == 0 {
             self.first = seed;
@@ -107,7 +95,7 @@ pub fn run_all(
     out: &mut impl Write,
 ) -> io::Result<Done> {
     let began = Processor::now();
-    let mut done = Done::new();
+    let mut done = Done::default();
     for seed in seeds {
         run_one(seed, plan, &mut done, out)?;
         if done.wrong.is_some() || done.events >= plan.most_events {
@@ -128,7 +116,7 @@ pub fn run_fresh(processor: Duration, plan: &Plan, out: &mut impl Write) -> io::
     let first = RandomState::new().hash_one(0) >> 16;
     writeln!(out, "fresh seeds from {first} on")?;
     let began = Processor::now();
-    let mut done = Done::new();
+    let mut done = Done::default();
     while done.wrong.is_none() && done.events < plan.most_events && began.took() < processor {
         run_one(first + done.worlds, plan, &mut done, out)?;
     }
