@@ -187,19 +187,6 @@ impl Database {
         self.connect().wait_until(WAITING, |found| found == 0);
     }
 
-    /// The server is a replica when it is started again, and has nobody to follow.
-    pub fn become_replica(&self) {
-        std::fs::write(self.folder.join("data/standby.signal"), "").unwrap();
-    }
-
-    /// Promotes the replica as soon as it answers, and waits until it is the primary.
-    pub fn promote(&self) {
-        self.wait_for_answers();
-        let sql = self.connect();
-        sql.wait_until("SELECT pg_promote()::int::bigint", |promoted| promoted == 1);
-        sql.wait_until("SELECT pg_is_in_recovery()::int::bigint", |replica| replica == 0);
-    }
-
     /// Ends the server as an operator does, and waits until it has ended.
     pub fn stop(&mut self) {
         self.end("-INT");
