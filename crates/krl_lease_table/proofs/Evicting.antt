@@ -74,7 +74,7 @@ module _ (limits : Limits) (clocks : Clocks) (i : ℕ) (s : Server) where
   -- It makes room
 
   -- nobody's word that it is over, so its end has come
-  by_room : (row : Row) (j : ℕ) (v : State) (u : Until) (st : Standing) → standings.may_answer st ≡ true → row.registered < j → systems.has_word s row j ≡ false → rows.makes_room st (rows.asks s.terms row j) (clocks.server s.machine v.now) ≡ true → Stands limits clocks i s v u st → servers.has_come u (clocks.server s.machine v.now) ≡ true
+  by_room : (row : Row) (j : ℕ) (v : State) (u : Until) (st : Standing) → standings.may_answer st ≡ true → row.registered < j → systems.counts_as_over s row j ≡ false → rows.makes_room st (rows.asks s.terms row j) (clocks.server s.machine v.now) ≡ true → Stands limits clocks i s v u st → servers.has_come u (clocks.server s.machine v.now) ≡ true
   by_room row j v u Absent a l w m h = absurd (false≢true a)
   by_room row j v u Ended a l w m h = absurd (false≢true a)
   by_room row j v u (Present x) a l w m h =
@@ -82,23 +82,23 @@ module _ (limits : Limits) (clocks : Clocks) (i : ℕ) (s : Server) where
       let p = or_parts (asks.over == row.registered) asks.is_vouched w in
       come v u x (last_reason (nat_le j row.registered) (asks.over == row.registered) (servers.has_come x (clocks.server s.machine v.now)) asks.is_vouched (lt-leb j row.registered l) p.0 p.1 (servers.is_never x) m) h.1
 
-  pub admits : (row : Row) (j : ℕ) (v v' : State) → v' ≡ with_standing v (ends i row (rows.admitted s.terms row j (clocks.server s.machine v.now)) && not (systems.has_word s row j)) Evicted → Follows limits clocks i s row v → Follows limits clocks i s (rows.admitted s.terms row j (clocks.server s.machine v.now)) v'
+  pub admits : (row : Row) (j : ℕ) (v v' : State) → v' ≡ with_standing v (ends i row (rows.admitted s.terms row j (clocks.server s.machine v.now)) && not (systems.counts_as_over s row j)) Evicted → Follows limits clocks i s row v → Follows limits clocks i s (rows.admitted s.terms row j (clocks.server s.machine v.now)) v'
   admits row j v v' g f = by (nat_lt row.registered j && (standings.may_answer row.standing && rows.admits s.terms row j (clocks.server s.machine v.now))) refl g
     where
-      room : (c : Bool) → (ends i row (record row { standing = Ended }) && not (systems.has_word s row j)) ≡ c → (nat_lt row.registered j && (standings.may_answer row.standing && rows.admits s.terms row j (clocks.server s.machine v.now))) ≡ true → v' ≡ with_standing v (ends i row (record row { standing = Ended }) && not (systems.has_word s row j)) Evicted → Follows limits clocks i s (record row { standing = Ended }) v'
+      room : (c : Bool) → (ends i row (record row { standing = Ended }) && not (systems.counts_as_over s row j)) ≡ c → (nat_lt row.registered j && (standings.may_answer row.standing && rows.admits s.terms row j (clocks.server s.machine v.now))) ≡ true → v' ≡ with_standing v (ends i row (record row { standing = Ended }) && not (systems.counts_as_over s row j)) Evicted → Follows limits clocks i s (record row { standing = Ended }) v'
       room false c o g =
-          silent row v v' f (unmoved v v' (ends i row (record row { standing = Ended }) && not (systems.has_word s row j)) Evicted g c)
+          silent row v v' f (unmoved v v' (ends i row (record row { standing = Ended }) && not (systems.counts_as_over s row j)) Evicted g c)
       room true c o g =
           let p = and_parts (nat_lt row.registered j) (standings.may_answer row.standing && rows.admits s.terms row j (clocks.server s.machine v.now)) o in
           let q = and_parts (standings.may_answer row.standing) (rows.admits s.terms row j (clocks.server s.machine v.now)) p.1 in
-          let e = and_parts (ends i row (record row { standing = Ended })) (not (systems.has_word s row j)) c in
+          let e = and_parts (ends i row (record row { standing = Ended })) (not (systems.counts_as_over s row j)) c in
           let m = and_parts (may_answer i row) (not (may_answer i (record row { standing = Ended }))) e.0 in
           let r = and_parts (row.registered == i) (standings.may_answer row.standing) m.0 in
           let k = eqb-true row.registered i r.0 in
           evicted row v v' f k q.0
-          (by_room row j v f.until row.standing q.0 (ltb-true row.registered j p.0) (not-true (systems.has_word s row j) e.1) q.1 (f.shows.present k))
-          (set_to v v' (ends i row (record row { standing = Ended }) && not (systems.has_word s row j)) Evicted g c)
+          (by_room row j v f.until row.standing q.0 (ltb-true row.registered j p.0) (not-true (systems.counts_as_over s row j) e.1) q.1 (f.shows.present k))
+          (set_to v v' (ends i row (record row { standing = Ended }) && not (systems.counts_as_over s row j)) Evicted g c)
 
-      by : (b : Bool) → (nat_lt row.registered j && (standings.may_answer row.standing && rows.admits s.terms row j (clocks.server s.machine v.now))) ≡ b → v' ≡ with_standing v (ends i row (if b then record row { standing = Ended } else row) && not (systems.has_word s row j)) Evicted → Follows limits clocks i s (if b then record row { standing = Ended } else row) v'
-      by true o g = room (ends i row (record row { standing = Ended }) && not (systems.has_word s row j)) refl o g
-      by false o g = subst (Follows limits clocks i s row) (sym (unmoved v v' (ends i row row && not (systems.has_word s row j)) Evicted g (and_left (ends i row row) (not (systems.has_word s row j)) (and_not (may_answer i row))))) f
+      by : (b : Bool) → (nat_lt row.registered j && (standings.may_answer row.standing && rows.admits s.terms row j (clocks.server s.machine v.now))) ≡ b → v' ≡ with_standing v (ends i row (if b then record row { standing = Ended } else row) && not (systems.counts_as_over s row j)) Evicted → Follows limits clocks i s (if b then record row { standing = Ended } else row) v'
+      by true o g = room (ends i row (record row { standing = Ended }) && not (systems.counts_as_over s row j)) refl o g
+      by false o g = subst (Follows limits clocks i s row) (sym (unmoved v v' (ends i row row && not (systems.counts_as_over s row j)) Evicted g (and_left (ends i row row) (not (systems.counts_as_over s row j)) (and_not (may_answer i row))))) f

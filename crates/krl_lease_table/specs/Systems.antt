@@ -55,9 +55,10 @@ ends i row row' = may_answer i row && not (may_answer i row')
 abbrev pub begins : ℕ → Row → Row → Bool
 begins i row row' = not (may_answer i row) && may_answer i row'
 
--- a process or an operator vouches that the registered incarnation is over
-abbrev pub has_word : Server → Row → ℕ → Bool
-has_word s row j = let asks = rows.asks s.terms row j in asks.over == asks.registered || asks.is_vouched
+-- for the incarnation j the registered one counts as over, whether or not its end has come: by the word of a lock file
+-- or an operator, since no sign of j came, or since the server grants leases without end
+abbrev pub counts_as_over : Server → Row → ℕ → Bool
+counts_as_over s row j = let asks = rows.asks s.terms row j in asks.over == asks.registered || asks.is_vouched
 
 abbrev pub with_standing : State → Bool → machine.Standing → State
 with_standing v b standing = record v { standing = if b then standing else v.standing }
@@ -98,7 +99,7 @@ abbrev pub Happens : ℕ → Clocks → Server → Row → Row → State → Cal
 Happens i clocks s row row' v (Signs x commits) v' = IsHeard i clocks s row x v v'
 Happens i clocks s row row' v (TakesTerms made) v' = AreSent i clocks s row made v.waiting v v'
 Happens i clocks s row row' v (Admits j) v' =
-    v' ≡ with_standing v (ends i row row' && not (has_word s row j)) Evicted
+    v' ≡ with_standing v (ends i row row' && not (counts_as_over s row j)) Evicted
 Happens i clocks s row row' v (Registers j) v' =
     (begins i row row' ≡ true → v.says_hello ≡ true)
     × (v' ≡ with_registered s (with_standing v (ends i row row') Evicted) (begins i row row'))
