@@ -1,52 +1,69 @@
 -- Each write is done once, and what clients learn of it is so.
-use Rattle.krl_machine.proofs.Names.{◌≡◌, ◌≢◌, ℕ, suc, ◌≤◌, true, false, Option, Some, None, List, ◌∷◌, ◌⊎◌, inl, inr, refl, sym, ap, subst, ◌∙◌, ⊎_elim, true≢false, arith, KeyPart, Value, In}
-use Rattle.krl_machine.proofs.Names.{each_more, Op, Insert, Put, Delete, op_key, Push, Write, Wrote, Shared, Link, LinkStep, Passes, AnswersLast, starts, issues, writes_again, registers, refuses}
+use Rattle.krl_machine.proofs.Names.{◌≡◌, ◌≢◌, ℕ, suc, ◌≤◌, true, false, Option, Some, None, List, ◌∷◌, none-some, same_Some, ◌⊎◌, inl, inr, refl, sym, ap, subst, ◌∙◌, ⊎_elim, true≢false, arith, KeyPart, Value, In}
+use Rattle.krl_machine.proofs.Names.{each_more, Op, Insert, Put, Delete, op_key, Push, Write, Wrote, Shared, Link, LinkStep, Passes, AnswersLast, OutAfter, starts, crashes, leaves, accepts, issues, writes_again, registers, refuses}
 use Rattle.krl_machine.proofs.Names.{pushes, if◌then◌else◌, eq-eqb, ne_eqb, Logged, World, Changed, Applies, inserted, replaced, deleted, wrote_by, Step, at_link, raises, applies, crash, start}
 use Rattle.krl_machine.proofs.Names.{finish, blank_link, Reachable, begun, stepped, IsOnce, entry_after, replay, IsDue, IsProper, WritesOnce}
 use Rattle.krl_machine.proofs.Basics.{Inv}
 use Rattle.krl_machine.proofs.Worlds.{eq_cases, WorldInv}
 use Rattle.krl_machine.proofs.Runs.{reachable_inv}
 
+-- a Write message of this incarnation and number was sent, for this operation
+abbrev pub Sent : Link → ℕ → ℕ → Op → Type 0
+Sent l inc number op = (m : Write) × In m l.writes × (m.head.inc ≡ inc) × (m.number ≡ number) × (m.op ≡ op)
+
 -- what one link knows of its applied writes
 abbrev pub Wrotes : Link → Type 0
 Wrotes l = record {
   low : (e : Wrote) → In e l.wrote → (e.inc ≤ l.reg) × (e.inc ≡ l.reg → e.number ≤ l.done);
-  did : l.applied ≡ true → 1 ≤ l.done → (e : Wrote) × In e l.wrote × (e.inc ≡ l.reg) × (e.number ≡ l.done);
+  did : l.applied ≡ true → 1 ≤ l.done → (m : Write) → In m l.writes → m.head.inc ≡ l.reg → m.number ≡ l.done → (e : Wrote) × In e l.wrote × (e.inc ≡ l.reg) × (e.number ≡ l.done);
   did_not : l.applied ≡ false → (e : Wrote) → In e l.wrote → e.inc ≡ l.reg → e.number ≢ l.done;
   told : (p : Push) → In p l.pushes → 1 ≤ p.answers → p.applied ≡ true → (e : Wrote) × In e l.wrote × (e.inc ≡ p.inc) × (e.number ≡ p.answers);
   told_not : (p : Push) → In p l.pushes → 1 ≤ p.answers → p.applied ≡ false → (e : Wrote) → In e l.wrote → e.inc ≡ p.inc → e.number ≢ p.answers;
-  sent : (e : Wrote) → In e l.wrote → (m : Write) × In m l.writes × (m.head.inc ≡ e.inc) × (m.number ≡ e.number) × (m.op ≡ e.op);
+  sent : (e : Wrote) → In e l.wrote → Sent l e.inc e.number e.op;
   same : (m n : Write) → In m l.writes → In n l.writes → m.head.inc ≡ n.head.inc → m.number ≡ n.number → m.op ≡ n.op;
+  sent_out : (op : Op) → l.out ≡ Some op → Sent l l.inc l.issued op;
 }
 
--- one more Write message, whose operation is that of the others of its number
 same_more : (m : Write) (ms : List Write) → ((n : Write) → In n ms → n.head.inc ≡ m.head.inc → n.number ≡ m.number → n.op ≡ m.op) → ((a b : Write) → In a ms → In b ms → a.head.inc ≡ b.head.inc → a.number ≡ b.number → a.op ≡ b.op) → (a b : Write) → In a (m ∷ ms) → In b (m ∷ ms) → a.head.inc ≡ b.head.inc → a.number ≡ b.number → a.op ≡ b.op
 same_more m ms new old a b (inl e) (inl f) x y = cc
 same_more m ms new old a b (inl e) (inr f) x y = let g = new b f (sym x ∙ ap (λ z. z.head.inc) e) (sym y ∙ ap (λ z. z.number) e) in ap (λ z. z.op) e ∙ sym g
 same_more m ms new old a b (inr e) (inl f) x y = new a e (x ∙ ap (λ z. z.head.inc) f) (y ∙ ap (λ z. z.number) f) ∙ sym (ap (λ z. z.op) f)
 same_more m ms new old a b (inr e) (inr f) x y = old a b e f x y
 
-sent_more : (l : Link) (m : Write) → ((e : Wrote) → In e l.wrote → (m : Write) × In m l.writes × (m.head.inc ≡ e.inc) × (m.number ≡ e.number) × (m.op ≡ e.op)) → (e : Wrote) → In e l.wrote → (n : Write) × In n (m ∷ l.writes) × (n.head.inc ≡ e.inc) × (n.number ≡ e.number) × (n.op ≡ e.op)
+sent_more : (l : Link) (m : Write) → ((e : Wrote) → In e l.wrote → Sent l e.inc e.number e.op) → (e : Wrote) → In e l.wrote → (n : Write) × In n (m ∷ l.writes) × (n.head.inc ≡ e.inc) × (n.number ≡ e.number) × (n.op ≡ e.op)
 sent_more l m h e at = let x = h e at in (x.0, inr x.1, x.2, x.3, x.4)
 
+-- an accepted push leaves the outstanding write, or none
+out_after : (l : Link) (p : Push) (out : Option Op) (op : Op) → OutAfter l p out → out ≡ Some op → l.out ≡ Some op
+out_after l p out op (inl x) e = absurd (none-some op (sym x.1 ∙ e))
+out_after l p out op (inr x) e = sym x.1 ∙ e
+
 pub wrotes_kept : (s : Shared) (l l' : Link) → LinkStep s l l' → Inv s l → Wrotes l → Wrotes l'
+wrotes_kept s l l' (starts down) i w = record { low = w.low; did = w.did; did_not = w.did_not; told = w.told; told_not = w.told_not; sent = w.sent; same = w.same; sent_out = λ op e. absurd (none-some op e) }
+wrotes_kept s l l' crashes i w = record { low = w.low; did = w.did; did_not = w.did_not; told = w.told; told_not = w.told_not; sent = w.sent; same = w.same; sent_out = λ op e. absurd (none-some op e) }
+wrotes_kept s l l' (leaves up) i w = record { low = w.low; did = w.did; did_not = w.did_not; told = w.told; told_not = w.told_not; sent = w.sent; same = w.same; sent_out = λ op e. absurd (none-some op e) }
+wrotes_kept s l l' (accepts p out at live after) i w = record { low = w.low; did = w.did; did_not = w.did_not; told = w.told; told_not = w.told_not; sent = w.sent; same = w.same; sent_out = λ op e. w.sent_out op (out_after l p out op after e) }
 wrotes_kept s l l' (issues op up old none may) i w = record {
   low = w.low;
-  did = w.did;
+  did = λ a b. each_more (λ m. m.head.inc ≡ l.reg → m.number ≡ l.done → (e : Wrote) × In e l.wrote × (e.inc ≡ l.reg) × (e.number ≡ l.done)) _ l.writes
+      (λ x y. absurd (omega (arith, (i.writing.counted up x).0, y))) (w.did a b);
   did_not = w.did_not;
   told = w.told;
   told_not = w.told_not;
   sent = sent_more l _ w.sent;
   same = same_more _ l.writes (λ n at e f. absurd (omega (arith, (i.writing.writes n at e).0, f))) w.same;
+  sent_out = λ o e. (_, inl refl, refl, refl, same_Some op o e);
 }
 wrotes_kept s l l' (writes_again op up old out) i w = record {
   low = w.low;
-  did = w.did;
+  did = λ a b. each_more (λ m. m.head.inc ≡ l.reg → m.number ≡ l.done → (e : Wrote) × In e l.wrote × (e.inc ≡ l.reg) × (e.number ≡ l.done)) _ l.writes
+      (λ x y. let z = w.sent_out op out in w.did a b z.0 z.1 (z.2 ∙ x) (z.3 ∙ y)) (w.did a b);
   did_not = w.did_not;
   told = w.told;
   told_not = w.told_not;
   sent = sent_more l _ w.sent;
   same = same_more _ l.writes (λ n at e f. (i.writing.writes n at e).1 op out f) w.same;
+  sent_out = λ o e. let z = w.sent_out o e in (z.0, inr z.1, z.2, z.3, z.4);
 }
 wrotes_kept s l l' (registers h at on newer) i w = record {
   low = λ e m. let x : e.inc ≤ l.reg = (w.low e m).0 in (omega arith, λ f. absurd (omega arith));
@@ -56,6 +73,7 @@ wrotes_kept s l l' (registers h at on newer) i w = record {
   told_not = w.told_not;
   sent = w.sent;
   same = w.same;
+  sent_out = w.sent_out;
 }
 wrotes_kept s l l' (refuses m at ok acked next) i w = record {
   low = λ e x. let y = w.low e x in (y.0, λ f. omega (arith, y.1 f));
@@ -65,6 +83,7 @@ wrotes_kept s l l' (refuses m at ok acked next) i w = record {
   told_not = w.told_not;
   sent = w.sent;
   same = w.same;
+  sent_out = w.sent_out;
 }
 wrotes_kept s l l' (pushes p a ha ainc aepoch serving here acked inc epoch number says answers) i w = record {
   low = w.low;
@@ -72,10 +91,11 @@ wrotes_kept s l l' (pushes p a ha ainc aepoch serving here acked inc epoch numbe
   did_not = w.did_not;
   sent = w.sent;
   same = w.same;
+  sent_out = w.sent_out;
   told = each_more (λ p'. 1 ≤ p'.answers → p'.applied ≡ true → (e : Wrote) × In e l.wrote × (e.inc ≡ p'.inc) × (e.number ≡ p'.answers)) p l.pushes
       (λ some t. ⊎_elim (λ (z : p.answers ≡ 0). absurd (omega (arith, z)))
       (λ (x : AnswersLast l p).
-      let d = w.did (sym x.applied ∙ t) (omega (arith, x.answers)) in (d.0, d.1, d.2 ∙ sym inc, d.3 ∙ sym x.answers)) answers)
+      let d = w.did (sym x.applied ∙ t) (omega (arith, x.answers)) x.write x.sent x.inc x.number in (d.0, d.1, d.2 ∙ sym inc, d.3 ∙ sym x.answers)) answers)
       w.told;
   told_not = each_more (λ p'. 1 ≤ p'.answers → p'.applied ≡ false → (e : Wrote) → In e l.wrote → e.inc ≡ p'.inc → e.number ≢ p'.answers) p l.pushes
       (λ some t. ⊎_elim (λ (z : p.answers ≡ 0). absurd (omega (arith, z)))
@@ -89,12 +109,13 @@ wrotes_kept s l l' _ i w = w
 own_wrotes : (s : Shared) (l : Link) (m : Write) (key : ℕ → KeyPart) → In m l.writes → Passes s l m.head → m.number ≡ suc l.done → Inv s l → Wrotes l → Wrotes (record l { done = suc l.done; applied = true; wrote = wrote_by l m ∷ l.wrote; top_key = key })
 own_wrotes s l m key at ok next i w = record {
   low = each_more (λ e. (e.inc ≤ l.reg) × (e.inc ≡ l.reg → e.number ≤ suc l.done)) _ l.wrote (omega arith, λ e. omega arith) (λ e x. let y = w.low e x in (y.0, λ f. omega (arith, y.1 f)));
-  did = λ a b. (wrote_by l m, inl refl, refl, refl);
+  did = λ a b n nat x y. (wrote_by l m, inl refl, refl, refl);
   did_not = λ a. absurd (true≢false a);
   told = λ p pat some t. let d = w.told p pat some t in (d.0, inr d.1, d.2, d.3);
   told_not = λ p pat some t. each_more (λ e. e.inc ≡ p.inc → e.number ≢ p.answers) _ l.wrote (λ e f. omega (arith, i.writing.answers p pat (sym e), f)) (w.told_not p pat some t);
-  sent = each_more (λ e. (m : Write) × In m l.writes × (m.head.inc ≡ e.inc) × (m.number ≡ e.number) × (m.op ≡ e.op)) _ l.wrote (m, at, ok.inc, next, refl) w.sent;
+  sent = each_more (λ e. Sent l e.inc e.number e.op) _ l.wrote (m, at, ok.inc, next, refl) w.sent;
   same = w.same;
+  sent_out = w.sent_out;
 }
 
 -- the whole list against the links' lists
@@ -111,7 +132,7 @@ same_wrote : (s : Shared) (l l' : Link) → LinkStep s l l' → l'.wrote ≡ l.w
 same_wrote s l l' (starts down) = refl
 same_wrote s l l' _ = refl
 
-write_at : (op : Op) (old : Option Value) (q : ℕ) → op_key op ≢ q → entry_after op old q ≡ old
+pub write_at : (op : Op) (old : Option Value) (q : ℕ) → op_key op ≢ q → entry_after op old q ≡ old
 write_at (Insert k v) old q ne = ap (λ b. if b then Some v else old) (ne_eqb q k (λ e. ne (sym e)))
 write_at (Put k v) old q ne = ap (λ b. if b then Some v else old) (ne_eqb q k (λ e. ne (sym e)))
 write_at (Delete k) old q ne = ap (λ b. if b then None else old) (ne_eqb q k (λ e. ne (sym e)))
@@ -187,8 +208,8 @@ history_kept index w v (crash on) i h = record { each = h.each; listed = h.liste
 history_kept index w v (start missing down is) i h = record { each = h.each; listed = h.listed; all = h.all; once = h.once; fold = h.fold; proper = h.proper }
 history_kept index w v (finish on all) i h = record { each = h.each; listed = h.listed; all = h.all; once = h.once; fold = h.fold; proper = h.proper }
 
-wrotes_blank : Wrotes blank_link
-wrotes_blank = record { low = λ e at. absurd at; did = λ e at. absurd (omega arith); did_not = λ a e at. absurd at; told = λ e at. absurd at; told_not = λ e at. absurd at; sent = λ e at. absurd at; same = λ m n at. absurd at }
+pub wrotes_blank : Wrotes blank_link
+wrotes_blank = record { low = λ e at. absurd at; did = λ e at. absurd (omega arith); did_not = λ a e at. absurd at; told = λ e at. absurd at; told_not = λ e at. absurd at; sent = λ e at. absurd at; same = λ m n at. absurd at; sent_out = λ op e. absurd (none-some op e) }
 
 pub reachable_history : (index : ℕ → Option Value) (end : ℕ) (w : World) → Reachable index end w → History index w
 reachable_history index end w begun = record { each = λ c. wrotes_blank; listed = λ e at. absurd at; all = λ c x at. absurd at; once = tt; fold = λ q. refl; proper = tt }

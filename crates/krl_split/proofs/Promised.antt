@@ -7,7 +7,8 @@ use Rattle.krl_machine.proofs.Runs.{compatible_of, bounded_of, scans_of, no_alar
 use Rattle.krl_split.specs.Parts.{those, ended, settle, part, Parted, whole, moved, IsInside, Keeps, Halves}
 use Rattle.krl_split.proofs.Clips.{choose_in, choose_out, of_those, in_those}
 use Rattle.krl_split.proofs.Cut.{parted_inv}
-use Rattle.krl_split.proofs.Written.{parted_history, writes_of}
+use Rattle.krl_split.proofs.Written.{parted_history}
+use Rattle.krl_machine.proofs.Writes.{writes_of}
 
 pub parted_compatible : (end : ℕ) (index : ℕ → Option Value) (lo hi : ℕ) (w : World) → Parted end index lo hi w → IsCompatible w
 parted_compatible end index lo hi w p = compatible_of w (parted_inv end index lo hi w p)

@@ -1,5 +1,5 @@
 -- What holds of old servers, link by link.
-use Rattle.krl_failover.proofs.Machine.Names.{◌≡◌, ◌≢◌, ℕ, suc, ◌≤◌, ◌<◌, true, false, None, ◌⊎◌, In, KeyAtMost, Head, Notice, Push, Release, Report, Shared, Link, IsRebuilt, Wrote, off_slot}
+use Rattle.krl_failover.proofs.Machine.Names.{◌≡◌, ◌≢◌, ℕ, suc, ◌≤◌, ◌<◌, true, false, None, ◌⊎◌, In, KeyAtMost, Head, Notice, Push, Release, Report, Shared, Link, IsRebuilt, Write, Wrote, off_slot}
 use Rattle.krl_modes.specs.declared.part.RangePart.TheVariants as range
 use Rattle.krl_modes.specs.declared.part.KeyPart.TheVariants as key
 use Rattle.krl_failover.specs.Fenced.{Kept, IsHere}
@@ -24,7 +24,8 @@ pub record Old (s : Shared) (l : Link) (e : ℕ) (z : Kept) : Type 0 where
   -- a client whose report the store's server does not wait for is in that server's epoch
   pub present : z.reg ≡ l.reg → l.missing ≡ false → l.up ≡ true → l.inc ≡ l.reg → l.epoch ≡ s.epoch
   -- its record of the last write is right
-  pub did : z.applied ≡ true → 1 ≤ z.done → (x : Wrote) × In x l.wrote × (x.inc ≡ z.reg) × (x.number ≡ z.done)
+  pub did : z.applied ≡ true → 1 ≤ z.done → (m : Write) → In m l.writes → m.head.inc ≡ z.reg → m.number ≡ z.done →
+      (x : Wrote) × In x l.wrote × (x.inc ≡ z.reg) × (x.number ≡ z.done)
   pub did_not : z.applied ≡ false → (x : Wrote) → In x l.wrote → x.inc ≡ z.reg → x.number ≢ z.done
 
 -- while the store's server recovers: the server of the epoch b, the last that served, which keeps z of this client

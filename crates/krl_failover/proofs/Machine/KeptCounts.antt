@@ -1,8 +1,9 @@
 -- The steps of a link keep the counts of old servers.
-use Rattle.krl_failover.proofs.Machine.Names.{◌≡◌, ℕ, ◌≤◌, ◌<◌, sym, subst, ◌∙◌, true≢false, arith, each_more, Shared, Link, LinkStep}
+use Rattle.krl_failover.proofs.Machine.Names.{◌≡◌, ℕ, ◌≤◌, ◌<◌, sym, subst, ◌∙◌, true≢false, arith, each_more, In, Shared, Link, LinkStep, Wrote}
 use Rattle.krl_failover.proofs.Machine.Names.{starts, crashes, leaves, joins, accepts, lowers, issues, speaks, writes_again, reports_again, registers, sees_off, takes_report, refuses, pushes}
 use Rattle.krl_machine.proofs.Basics.{Inv}
 use Rattle.krl_machine.proofs.Belief.{live_registered}
+use Rattle.krl_machine.proofs.Writes.{Wrotes}
 use Rattle.krl_failover.specs.Fenced.{Kept}
 use Rattle.krl_failover.proofs.Machine.Basics.{Extra, Old}
 
@@ -65,8 +66,8 @@ extra_kept s l l' (pushes p a ha ainc aepoch serving here acked inc epoch number
 }
 extra_kept s l l' _ i x = record { heads = x.heads; reports = x.reports; seen = x.seen }
 
-pub old_kept : (s : Shared) (l l' : Link) (e : ℕ) (z : Kept) → LinkStep s l l' → e < s.epoch → Inv s l → Old s l e z → Old s l' e z
-old_kept s l l' e z (starts down) lt i o = record {
+pub old_kept : (s : Shared) (l l' : Link) (e : ℕ) (z : Kept) → LinkStep s l l' → e < s.epoch → Inv s l → Wrotes l → Old s l e z → Old s l' e z
+old_kept s l l' e z (starts down) lt i w o = record {
   reg = o.reg;
   done = o.done;
   seen = λ r f g. absurd (omega (arith, i.standing.reg, f));
@@ -78,7 +79,7 @@ old_kept s l l' e z (starts down) lt i o = record {
   did = o.did;
   did_not = o.did_not;
 }
-old_kept s l l' e z crashes lt i o = record {
+old_kept s l l' e z crashes lt i w o = record {
   reg = o.reg;
   done = o.done;
   seen = o.seen;
@@ -90,7 +91,7 @@ old_kept s l l' e z crashes lt i o = record {
   did = o.did;
   did_not = o.did_not;
 }
-old_kept s l l' e z (leaves up) lt i o = record {
+old_kept s l l' e z (leaves up) lt i w o = record {
   reg = o.reg;
   done = o.done;
   seen = o.seen;
@@ -102,7 +103,7 @@ old_kept s l l' e z (leaves up) lt i o = record {
   did = o.did;
   did_not = o.did_not;
 }
-old_kept s l l' e z (joins n at up same later) lt i o = record {
+old_kept s l l' e z (joins n at up same later) lt i w o = record {
   reg = o.reg;
   done = o.done;
   seen = λ r f g. let y = o.early r f (omega (arith, g)) in (omega (arith, y), omega (arith, y));
@@ -114,7 +115,7 @@ old_kept s l l' e z (joins n at up same later) lt i o = record {
   did = o.did;
   did_not = o.did_not;
 }
-old_kept s l l' e z (accepts p out at live after) lt i o = record {
+old_kept s l l' e z (accepts p out at live after) lt i w o = record {
   reg = o.reg;
   done = o.done;
   seen = λ r f g. let up = o.pushes r p at (live.inc ∙ f) (live.epoch ∙ g) in let b = o.seen r f g in (omega (arith, live.number, up), omega (arith, b.1));
@@ -127,7 +128,7 @@ old_kept s l l' e z (accepts p out at live after) lt i o = record {
   did = o.did;
   did_not = o.did_not;
 }
-old_kept s l l' e z (lowers r0 range key up old head mode free points) lt i o = record {
+old_kept s l l' e z (lowers r0 range key up old head mode free points) lt i w o = record {
   reg = o.reg;
   done = o.done;
   seen = o.seen;
@@ -140,7 +141,20 @@ old_kept s l l' e z (lowers r0 range key up old head mode free points) lt i o = 
   did = o.did;
   did_not = o.did_not;
 }
-old_kept s l l' e z (issues op up old out may) lt i o = record {
+old_kept s l l' e z (issues op up old out may) lt i w o = record {
+  reg = o.reg;
+  done = o.done;
+  seen = o.seen;
+  acked = o.acked;
+  early = o.early;
+  heads = λ r. each_more (λ a. a.inc ≡ l.reg → a.epoch ≡ e → a.seen ≤ z.last) _ l.heads (λ f g. (o.seen r f g).0) (o.heads r);
+  pushes = o.pushes;
+  present = o.present;
+  did = λ a b. each_more (λ m. m.head.inc ≡ z.reg → m.number ≡ z.done → (x : Wrote) × In x l.wrote × (x.inc ≡ z.reg) × (x.number ≡ z.done)) _ l.writes
+      (λ f g. let r : z.reg ≡ l.reg = omega (arith, o.reg, i.standing.reg, f) in absurd (omega (arith, o.done r, (i.writing.counted up (f ∙ r)).0, g))) (o.did a b);
+  did_not = o.did_not;
+}
+old_kept s l l' e z (speaks up old) lt i w o = record {
   reg = o.reg;
   done = o.done;
   seen = o.seen;
@@ -152,7 +166,7 @@ old_kept s l l' e z (issues op up old out may) lt i o = record {
   did = o.did;
   did_not = o.did_not;
 }
-old_kept s l l' e z (speaks up old) lt i o = record {
+old_kept s l l' e z (writes_again op up old out) lt i w o = record {
   reg = o.reg;
   done = o.done;
   seen = o.seen;
@@ -161,22 +175,11 @@ old_kept s l l' e z (speaks up old) lt i o = record {
   heads = λ r. each_more (λ a. a.inc ≡ l.reg → a.epoch ≡ e → a.seen ≤ z.last) _ l.heads (λ f g. (o.seen r f g).0) (o.heads r);
   pushes = o.pushes;
   present = o.present;
-  did = o.did;
+  did = λ a b. each_more (λ m. m.head.inc ≡ z.reg → m.number ≡ z.done → (x : Wrote) × In x l.wrote × (x.inc ≡ z.reg) × (x.number ≡ z.done)) _ l.writes
+      (λ f g. let y = w.sent_out op out in o.did a b y.0 y.1 (y.2 ∙ f) (y.3 ∙ g)) (o.did a b);
   did_not = o.did_not;
 }
-old_kept s l l' e z (writes_again op up old out) lt i o = record {
-  reg = o.reg;
-  done = o.done;
-  seen = o.seen;
-  acked = o.acked;
-  early = o.early;
-  heads = λ r. each_more (λ a. a.inc ≡ l.reg → a.epoch ≡ e → a.seen ≤ z.last) _ l.heads (λ f g. (o.seen r f g).0) (o.heads r);
-  pushes = o.pushes;
-  present = o.present;
-  did = o.did;
-  did_not = o.did_not;
-}
-old_kept s l l' e z (registers h at on newer) lt i o = record {
+old_kept s l l' e z (registers h at on newer) lt i w o = record {
   reg = omega (arith, o.reg);
   done = λ r. absurd (omega (arith, o.reg, r));
   seen = λ r. absurd (omega (arith, o.reg, r));
@@ -188,7 +191,7 @@ old_kept s l l' e z (registers h at on newer) lt i o = record {
   did = o.did;
   did_not = o.did_not;
 }
-old_kept s l l' e z (sees_off b at on same) lt i o = record {
+old_kept s l l' e z (sees_off b at on same) lt i w o = record {
   reg = o.reg;
   done = o.done;
   seen = o.seen;
@@ -200,7 +203,7 @@ old_kept s l l' e z (sees_off b at on same) lt i o = record {
   did = o.did;
   did_not = o.did_not;
 }
-old_kept s l l' e z (takes_report x range key at on missing same now built) lt i o = record {
+old_kept s l l' e z (takes_report x range key at on missing same now built) lt i w o = record {
   reg = o.reg;
   done = o.done;
   seen = o.seen;
@@ -212,7 +215,7 @@ old_kept s l l' e z (takes_report x range key at on missing same now built) lt i
   did = o.did;
   did_not = o.did_not;
 }
-old_kept s l l' e z (refuses w at ok acked next) lt i o = record {
+old_kept s l l' e z (refuses m at ok acked next) lt i w o = record {
   reg = o.reg;
   done = λ r. omega (arith, o.done r);
   seen = o.seen;
@@ -224,7 +227,7 @@ old_kept s l l' e z (refuses w at ok acked next) lt i o = record {
   did = o.did;
   did_not = o.did_not;
 }
-old_kept s l l' e z (pushes p a ha ainc aepoch serving here acked inc epoch number says answers) lt i o = record {
+old_kept s l l' e z (pushes p a ha ainc aepoch serving here acked inc epoch number says answers) lt i w o = record {
   reg = o.reg;
   done = o.done;
   seen = o.seen;
@@ -236,7 +239,7 @@ old_kept s l l' e z (pushes p a ha ainc aepoch serving here acked inc epoch numb
   did = o.did;
   did_not = o.did_not;
 }
-old_kept s l l' e z _ lt i o = record {
+old_kept s l l' e z _ lt i w o = record {
   reg = o.reg;
   done = o.done;
   seen = o.seen;

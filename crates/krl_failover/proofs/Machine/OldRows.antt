@@ -15,7 +15,7 @@ rows_gather : (s : Shared) (l : Link) (range : ℕ → RangePart) (key : ℕ →
 rows_gather s l range key e z g = record { new = g.new; present = g.present; high = g.high; later = g.later }
 
 rows_wrotes : (l : Link) (range : ℕ → RangePart) (key : ℕ → KeyPart) → Wrotes l → Wrotes (record l { top_range = range; top_key = key })
-rows_wrotes l range key w = record { low = w.low; did = w.did; did_not = w.did_not; told = w.told; told_not = w.told_not; sent = w.sent; same = w.same }
+rows_wrotes l range key w = record { low = w.low; did = w.did; did_not = w.did_not; told = w.told; told_not = w.told_not; sent = w.sent; same = w.same; sent_out = w.sent_out }
 
 -- The last server that served raises a row
 

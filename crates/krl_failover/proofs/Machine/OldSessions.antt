@@ -46,7 +46,7 @@ notice_gather s l n e z one ok g = record {
 }
 
 notice_wrotes : (l : Link) (n : Notice) → Wrotes l → Wrotes (record l { notices = n ∷ l.notices })
-notice_wrotes l n w = record { low = w.low; did = w.did; did_not = w.did_not; told = w.told; told_not = w.told_not; sent = w.sent; same = w.same }
+notice_wrotes l n w = record { low = w.low; did = w.did; did_not = w.did_not; told = w.told; told_not = w.told_not; sent = w.sent; same = w.same; sent_out = w.sent_out }
 
 pub notifies_kept : (index : ℕ → Option Value) (f : Fenced) (e c : ℕ) (links : ℕ → Link) → 1 ≤ e → e < f.world.shared.epoch →
     Changed f.world.links links c (record (f.world.links c) { notices = record { inc = (f.old e c).reg; epoch = e } ∷ (f.world.links c).notices }) →

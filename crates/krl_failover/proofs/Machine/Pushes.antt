@@ -182,9 +182,10 @@ module _ (s : Shared) (l : Link) (e : ℕ) (z : Kept) (p : Push) (i : Inv s l) (
     did_not = w.did_not;
     sent = w.sent;
     same = w.same;
+    sent_out = w.sent_out;
     told = each_more (λ p'. 1 ≤ p'.answers → p'.applied ≡ true → (x : Wrote) × In x l.wrote × (x.inc ≡ p'.inc) × (x.number ≡ p'.answers)) p l.pushes
         (λ some t. ⊎_elim (λ (a : p.answers ≡ 0). absurd (omega (arith, a)))
-        (λ (a : AnswersKept l z p). let d = o.did (sym a.applied ∙ t) (omega (arith, a.answers)) in (d.0, d.1, d.2 ∙ sym may.inc, d.3 ∙ sym a.answers)) may.answers)
+        (λ (a : AnswersKept l z p). let d = o.did (sym a.applied ∙ t) (omega (arith, a.answers)) a.write a.sent a.inc a.number in (d.0, d.1, d.2 ∙ sym may.inc, d.3 ∙ sym a.answers)) may.answers)
         w.told;
     told_not = each_more (λ p'. 1 ≤ p'.answers → p'.applied ≡ false → (x : Wrote) → In x l.wrote → x.inc ≡ p'.inc → x.number ≢ p'.answers) p l.pushes
         (λ some t. ⊎_elim (λ (a : p.answers ≡ 0). absurd (omega (arith, a)))

@@ -133,7 +133,7 @@ finished_old s l l' z (here_rows h) f x o = rows_old s l z.new_range z.new_key f
 finished_old s l l' z (gone_rows h) f x o = o
 
 pub finished_wrotes : (l l' : Link) (z : Kept) → Finished l z l' → Wrotes l → Wrotes l' × (l'.wrote ≡ l.wrote)
-finished_wrotes l l' z (here_rows h) w = (record { low = w.low; did = w.did; did_not = w.did_not; told = w.told; told_not = w.told_not; sent = w.sent; same = w.same }, refl)
+finished_wrotes l l' z (here_rows h) w = (record { low = w.low; did = w.did; did_not = w.did_not; told = w.told; told_not = w.told_not; sent = w.sent; same = w.same; sent_out = w.sent_out }, refl)
 finished_wrotes l l' z (gone_rows h) w = (w, refl)
 
 pub finished_who : (l l' : Link) (z : Kept) → Finished l z l' → (l'.reg ≡ l.reg) × (l'.up ≡ l.up) × (l'.inc ≡ l.inc) × (l'.epoch ≡ l.epoch)

@@ -6,7 +6,7 @@ use Rattle.krl_machine.proofs.Basics.{Inv}
 use Rattle.krl_machine.proofs.Links.{not_both}
 use Rattle.krl_machine.proofs.Worlds.{WorldInv}
 use Rattle.krl_machine.proofs.Runs.{world_kept}
-use Rattle.krl_machine.proofs.Writes.{history_kept}
+use Rattle.krl_machine.proofs.Writes.{Wrotes, history_kept}
 use Rattle.krl_failover.specs.Fenced.{Kept, Fenced}
 use Rattle.krl_failover.proofs.Machine.Basics.{Extra, Old, Top, Gather}
 use Rattle.krl_failover.proofs.Machine.KeptCounts.{extra_kept, old_kept}
@@ -47,7 +47,7 @@ applied_old s l index w key e z winc wnum o = record {
   heads = o.heads;
   pushes = o.pushes;
   present = o.present;
-  did = λ a b. let d = o.did a b in (d.0, inr d.1, d.2, d.3);
+  did = λ a b m at f g. let d = o.did a b m at f g in (d.0, inr d.1, d.2, d.3);
   did_not = λ a. each_more (λ x. x.inc ≡ z.reg → x.number ≢ z.done) w l.wrote (λ g h. omega (arith, o.done (sym g ∙ winc), wnum, h)) (o.did_not a);
 }
 
@@ -59,16 +59,16 @@ runs_extra w u (crash up) same on i x d = absurd (on (sym same))
 runs_extra w u (start missing down is) same on i x d = absurd (on down)
 runs_extra w u (finish rec all) same on i x d = absurd (not_both refl (same ∙ rec))
 
-runs_old : (w u : World) (old : ℕ → ℕ → Kept) (e : ℕ) → Step w u → u.shared.phase ≡ w.shared.phase → w.shared.phase ≢ Down → WorldInv w → e < w.shared.epoch → ((c : ℕ) → Old w.shared (w.links c) e (old e c)) → (d : ℕ) → Old u.shared (u.links d) e (old e d)
-runs_old w u old e (at_link c l links step ch) same on i lt o d = link_at ch d (λ m. Old w.shared m e (old e d)) (λ a. subst (λ x. Old w.shared l e (old e x)) (sym a) (old_kept w.shared (w.links c) l e (old e c) step lt (i.links c) (o c))) (λ ne. o d)
-runs_old w u old e (raises c range key links serving row up agrees ch) same on i lt o d = link_at ch d (λ m. Old w.shared m e (old e d)) (λ a. subst (λ x. Old w.shared (record (w.links c) { top_range = range; top_key = key }) e (old e x)) (sym a) (rows_old w.shared (w.links c) range key e (old e c) (o c))) (λ ne. o d)
-runs_old w u old e (applies c m index key links at ok acked next ap' ch) same on i lt o d = link_at ch d (λ y. Old (record w.shared { index = index }) y e (old e d))
+runs_old : (w u : World) (old : ℕ → ℕ → Kept) (e : ℕ) → Step w u → u.shared.phase ≡ w.shared.phase → w.shared.phase ≢ Down → WorldInv w → ((c : ℕ) → Wrotes (w.links c)) → e < w.shared.epoch → ((c : ℕ) → Old w.shared (w.links c) e (old e c)) → (d : ℕ) → Old u.shared (u.links d) e (old e d)
+runs_old w u old e (at_link c l links step ch) same on i h lt o d = link_at ch d (λ m. Old w.shared m e (old e d)) (λ a. subst (λ x. Old w.shared l e (old e x)) (sym a) (old_kept w.shared (w.links c) l e (old e c) step lt (i.links c) (h c) (o c))) (λ ne. o d)
+runs_old w u old e (raises c range key links serving row up agrees ch) same on i h lt o d = link_at ch d (λ m. Old w.shared m e (old e d)) (λ a. subst (λ x. Old w.shared (record (w.links c) { top_range = range; top_key = key }) e (old e x)) (sym a) (rows_old w.shared (w.links c) range key e (old e c) (o c))) (λ ne. o d)
+runs_old w u old e (applies c m index key links at ok acked next ap' ch) same on i h lt o d = link_at ch d (λ y. Old (record w.shared { index = index }) y e (old e d))
     (λ a. subst (λ x. Old (record w.shared { index = index }) (record (w.links c) { done = suc (w.links c).done; applied = true; wrote = wrote_by (w.links c) m ∷ (w.links c).wrote; top_key = key }) e (old e x)) (sym a)
     (applied_old w.shared (w.links c) index (wrote_by (w.links c) m) key e (old e c) refl refl (o c)))
     (λ ne. index_old w.shared (w.links d) index e (old e d) (o d))
-runs_old w u old e (crash up) same on i lt o d = absurd (on (sym same))
-runs_old w u old e (start missing down is) same on i lt o d = absurd (on down)
-runs_old w u old e (finish rec all) same on i lt o d = absurd (not_both refl (same ∙ rec))
+runs_old w u old e (crash up) same on i h lt o d = absurd (on (sym same))
+runs_old w u old e (start missing down is) same on i h lt o d = absurd (on down)
+runs_old w u old e (finish rec all) same on i h lt o d = absurd (not_both refl (same ∙ rec))
 
 runs_top : (w u : World) (old : ℕ → ℕ → Kept) (b : ℕ) → Step w u → u.shared.phase ≡ w.shared.phase → w.shared.phase ≡ Recovering → b < w.shared.epoch → WorldInv w → ((c : ℕ) → Extra w.shared (w.links c)) → ((c : ℕ) → Old w.shared (w.links c) b (old b c)) → ((c : ℕ) → Top w.shared (w.links c) b (old b c)) → (d : ℕ) → Top u.shared (u.links d) b (old b d)
 runs_top w u old b (at_link c l links step ch) same rec lt i x o t d = link_at ch d (λ m. Top w.shared m b (old b d)) (λ a. subst (λ y. Top w.shared l b (old b y)) (sym a) (top_kept w.shared (w.links c) l b (old b c) step rec lt (i.links c) (x c) (o c) (t c))) (λ ne. t d)
@@ -120,7 +120,7 @@ runs_kept index f u step p ep v = record {
   world = world_kept f.world u step v.world;
   history = history_kept index f.world u step v.world v.history;
   extra = runs_extra f.world u step p (is_on f.world.shared f.bound v.phase) v.world v.extra;
-  old = λ x c one lt. let lt' : x < f.world.shared.epoch = omega (arith, lt, ep) in runs_old f.world u f.old x step p (is_on f.world.shared f.bound v.phase) v.world lt' (λ d. v.old x d one lt') c;
+  old = λ x c one lt. let lt' : x < f.world.shared.epoch = omega (arith, lt, ep) in runs_old f.world u f.old x step p (is_on f.world.shared f.bound v.phase) v.world v.history.each lt' (λ d. v.old x d one lt') c;
   some = v.some;
   phase = runs_phase f.world u f.bound p ep v.phase;
   copies = λ rec e le lt. let rec' = sym p ∙ rec in v.copies rec' e le (omega (arith, lt, ep)) ∙ sym (ap (λ s. s.index) (runs_index f.world u step p rec'));
