@@ -7,36 +7,15 @@ use Rattle.krl_machine.proofs.Basics.{Inv}
 use Rattle.krl_machine.proofs.Belief.{live_registered, off_ok}
 use Rattle.krl_failover.specs.Fenced.{Kept, IsHere}
 use Rattle.krl_machine.proofs.RowChanges.{Below, blank_below, rebuilt_below, cut_within}
-use Rattle.krl_failover.proofs.Machine.Basics.{Extra, Old, Top}
+use Rattle.krl_failover.proofs.Machine.Basics.{Old, Top}
 
 pub raised_top : (s : Shared) (l : Link) (range : ℕ → RangePart) (key : ℕ → KeyPart) (b : ℕ) (z : Kept) → ((q : ℕ) → Below (l.top_range q) (l.top_key q) (range q) (key q)) → Top s l b z → Top s (record l { top_range = range; top_key = key }) b z
 raised_top s l range key b z up t = record {
-  same = t.same;
-  low = t.low;
+  sent = t.sent;
   belief = t.belief;
-  told = t.told;
   reports = λ lf x at e f q. let y = t.reports lf x at e f q in let u = up q in ((omega (arith, y, u), omega (arith, y, u)), omega (arith, y, u));
-  off = t.off;
   covers = t.covers;
-  order = t.order;
   new = t.new;
-}
-
-pub rows_extra : (s : Shared) (l : Link) (range : ℕ → RangePart) (key : ℕ → KeyPart) → Extra s l → Extra s (record l { top_range = range; top_key = key })
-rows_extra s l range key x = record { heads = x.heads; reports = x.reports; seen = x.seen }
-
-pub rows_old : (s : Shared) (l : Link) (range : ℕ → RangePart) (key : ℕ → KeyPart) (e : ℕ) (z : Kept) → Old s l e z → Old s (record l { top_range = range; top_key = key }) e z
-rows_old s l range key e z o = record {
-  reg = o.reg;
-  done = o.done;
-  seen = o.seen;
-  acked = o.acked;
-  early = o.early;
-  heads = o.heads;
-  pushes = o.pushes;
-  present = o.present;
-  did = o.did;
-  did_not = o.did_not;
 }
 
 pub off_mono : (a g : RangePart) (k : KeyPart) → KeyAtMost k (off_slot a) → RangeAtMost a g → KeyAtMost k (off_slot g)
@@ -48,9 +27,9 @@ module _ (s : Shared) (l : Link) (b : ℕ) (z : Kept) (r : Release) (ranges : �
     (slots : (n : ℕ) → IsSlot s n → SlotLowered s r l ranges keys n) (row : IsRow s ranges keys) where
   reports_cut : (x : Report) → In x l.reports → x.inc ≡ l.reg → b < x.epoch → (q : ℕ) → Below (x.range q) (x.key q) (ranges q) (keys q)
   reports_cut x xat e f = cut_within s l r ranges keys row i.rows.top slots x.range x.key
-      (λ q g far none h. off_mono (x.range q) g (x.key q) (t.off x xat e f q far none) h)
+      (λ q g far none h. off_mono (x.range q) g (x.key q) (t.sent.off x xat e f q far none) h)
       (t.reports here.1 x xat e f)
-      (t.told here.0 r at (inc ∙ here.0) epoch seen x xat e f)
+      (t.sent.told here.0 r at (inc ∙ here.0) epoch seen x xat e f)
 
   belief_cut : (q : ℕ) → Below (l.range q) (l.key q) (ranges q) (keys q)
   belief_cut q = ⊎_elim
@@ -73,10 +52,10 @@ module _ (s : Shared) (l : Link) (b : ℕ) (z : Kept) (r : Release) (ranges : �
   none_live : (p : Push) → In p l.pushes → IsLive l p → ⊥
   none_live p pat live =
       let same = live_registered s l p i.standing i.counting pat live in
-      let low = t.low p pat (live.inc ∙ same) in
+      let low = t.sent.low p pat (live.inc ∙ same) in
       let h = (i.counting.heads r.head (i.counting.releases r at)).1 (inc ∙ here.0 ∙ sym same) in
       let at_b : l.epoch ≡ b = omega (arith, h.0, epoch, low, live.epoch) in
-      let u = o.pushes here.0 p pat (live.inc ∙ same) (live.epoch ∙ at_b) in
+      let u = o.session.pushes here.0 p pat (live.inc ∙ same) (live.epoch ∙ at_b) in
       let v = h.1 (epoch ∙ sym at_b) in
       omega (arith, u, v, seen, live.number)
 
@@ -100,13 +79,9 @@ module _ (s : Shared) (l : Link) (b : ℕ) (z : Kept) (r : Release) (ranges : �
 
   pub cut_top : (e : ℕ) (y : Kept) → b ≤ e → Top s l e y → Top s (record l { top_range = ranges; top_key = keys }) e y
   cut_top e y le u = record {
-    same = u.same;
-    low = u.low;
+    sent = u.sent;
     belief = u.belief;
-    told = u.told;
     reports = λ lf x xat g h. reports_cut x xat g (omega (arith, h));
-    off = u.off;
     covers = u.covers;
-    order = u.order;
     new = u.new;
   }

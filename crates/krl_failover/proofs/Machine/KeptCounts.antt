@@ -64,190 +64,154 @@ extra_kept s l l' (pushes p a ha ainc aepoch serving here acked inc epoch number
   reports = x.reports;
   seen = λ a m e f. omega (arith, x.seen a m e f);
 }
-extra_kept s l l' _ i x = record { heads = x.heads; reports = x.reports; seen = x.seen }
+extra_kept s l l' _ i x = x
 
 pub old_kept : (s : Shared) (l l' : Link) (e : ℕ) (z : Kept) → LinkStep s l l' → e < s.epoch → Inv s l → Wrotes l → Old s l e z → Old s l' e z
 old_kept s l l' e z (starts down) lt i w o = record {
   reg = o.reg;
   done = o.done;
-  seen = λ r f g. absurd (omega (arith, i.standing.reg, f));
-  acked = λ r f g. absurd (omega (arith, i.standing.reg, f));
-  early = λ r f g. absurd (omega (arith, i.standing.reg, f));
+  session = record {
+    seen = λ r f g. absurd (omega (arith, i.standing.reg, f));
+    acked = λ r f g. absurd (omega (arith, i.standing.reg, f));
+    early = λ r f g. absurd (omega (arith, i.standing.reg, f));
+    pushes = o.session.pushes;
+  };
   heads = o.heads;
-  pushes = o.pushes;
   present = λ r m u f. absurd (omega (arith, i.standing.reg, f));
-  did = o.did;
-  did_not = o.did_not;
+  judged = o.judged;
 }
 old_kept s l l' e z crashes lt i w o = record {
   reg = o.reg;
   done = o.done;
-  seen = o.seen;
-  acked = o.acked;
-  early = o.early;
+  session = o.session;
   heads = o.heads;
-  pushes = o.pushes;
   present = λ r m u f. absurd (true≢false (sym u));
-  did = o.did;
-  did_not = o.did_not;
+  judged = o.judged;
 }
 old_kept s l l' e z (leaves up) lt i w o = record {
   reg = o.reg;
   done = o.done;
-  seen = o.seen;
-  acked = o.acked;
-  early = o.early;
+  session = o.session;
   heads = o.heads;
-  pushes = o.pushes;
   present = λ r m u f. absurd (true≢false (sym u));
-  did = o.did;
-  did_not = o.did_not;
+  judged = o.judged;
 }
 old_kept s l l' e z (joins n at up same later) lt i w o = record {
   reg = o.reg;
   done = o.done;
-  seen = λ r f g. let y = o.early r f (omega (arith, g)) in (omega (arith, y), omega (arith, y));
-  acked = λ r f g a. o.early r f (omega (arith, g));
-  early = λ r f g. o.early r f (omega (arith, g));
+  session = record {
+    seen = λ r f g. let y = o.session.early r f (omega (arith, g)) in (omega (arith, y), omega (arith, y));
+    acked = λ r f g a. o.session.early r f (omega (arith, g));
+    early = λ r f g. o.session.early r f (omega (arith, g));
+    pushes = o.session.pushes;
+  };
   heads = o.heads;
-  pushes = o.pushes;
   present = λ r m u f. let y = o.present r m u f in let top : n.epoch ≤ s.epoch = (i.standing.notices n at).1 in absurd (omega (arith, y, later));
-  did = o.did;
-  did_not = o.did_not;
+  judged = o.judged;
 }
 old_kept s l l' e z (accepts p out at live after) lt i w o = record {
   reg = o.reg;
   done = o.done;
-  seen = λ r f g. let up = o.pushes r p at (live.inc ∙ f) (live.epoch ∙ g) in let b = o.seen r f g in (omega (arith, live.number, up), omega (arith, b.1));
-  acked = λ r f g a. let up = o.pushes r p at (live.inc ∙ f) (live.epoch ∙ g) in absurd (omega (arith, live.number, up, o.acked r f g a));
-  early = o.early;
+  session = record {
+    seen = λ r f g. let up = o.session.pushes r p at (live.inc ∙ f) (live.epoch ∙ g) in let b = o.session.seen r f g in (omega (arith, live.number, up), omega (arith, b.1));
+    acked = λ r f g a. let up = o.session.pushes r p at (live.inc ∙ f) (live.epoch ∙ g) in absurd (omega (arith, live.number, up, o.session.acked r f g a));
+    early = o.session.early;
+    pushes = o.session.pushes;
+  };
   heads = λ r. each_more (λ a. a.inc ≡ l.reg → a.epoch ≡ e → a.seen ≤ z.last) _ l.heads
-      (λ f g. omega (arith, live.number, o.pushes r p at (live.inc ∙ f) (live.epoch ∙ g))) (o.heads r);
-  pushes = o.pushes;
+      (λ f g. omega (arith, live.number, o.session.pushes r p at (live.inc ∙ f) (live.epoch ∙ g))) (o.heads r);
   present = o.present;
-  did = o.did;
-  did_not = o.did_not;
+  judged = o.judged;
 }
 old_kept s l l' e z (lowers r0 range key up old head mode free points) lt i w o = record {
   reg = o.reg;
   done = o.done;
-  seen = o.seen;
-  acked = o.acked;
-  early = o.early;
+  session = o.session;
   heads = λ r. each_more (λ a. a.inc ≡ l.reg → a.epoch ≡ e → a.seen ≤ z.last) _ l.heads
-      (subst (λ a. a.inc ≡ l.reg → a.epoch ≡ e → a.seen ≤ z.last) (sym head) (λ f g. (o.seen r f g).0)) (o.heads r);
-  pushes = o.pushes;
+      (subst (λ a. a.inc ≡ l.reg → a.epoch ≡ e → a.seen ≤ z.last) (sym head) (λ f g. (o.session.seen r f g).0)) (o.heads r);
   present = o.present;
-  did = o.did;
-  did_not = o.did_not;
+  judged = o.judged;
 }
 old_kept s l l' e z (issues op up old out may) lt i w o = record {
   reg = o.reg;
   done = o.done;
-  seen = o.seen;
-  acked = o.acked;
-  early = o.early;
-  heads = λ r. each_more (λ a. a.inc ≡ l.reg → a.epoch ≡ e → a.seen ≤ z.last) _ l.heads (λ f g. (o.seen r f g).0) (o.heads r);
-  pushes = o.pushes;
+  session = o.session;
+  heads = λ r. each_more (λ a. a.inc ≡ l.reg → a.epoch ≡ e → a.seen ≤ z.last) _ l.heads (λ f g. (o.session.seen r f g).0) (o.heads r);
   present = o.present;
-  did = λ a b. each_more (λ m. m.head.inc ≡ z.reg → m.number ≡ z.done → (x : Wrote) × In x l.wrote × (x.inc ≡ z.reg) × (x.number ≡ z.done)) _ l.writes
-      (λ f g. let r : z.reg ≡ l.reg = omega (arith, o.reg, i.standing.reg, f) in absurd (omega (arith, o.done r, (i.writing.counted up (f ∙ r)).0, g))) (o.did a b);
-  did_not = o.did_not;
+  judged = record {
+    did = λ a b. each_more (λ m. m.head.inc ≡ z.reg → m.number ≡ z.done → (x : Wrote) × In x l.wrote × (x.inc ≡ z.reg) × (x.number ≡ z.done)) _ l.writes
+        (λ f g. let r : z.reg ≡ l.reg = omega (arith, o.reg, i.standing.reg, f) in absurd (omega (arith, o.done r, (i.writing.counted up (f ∙ r)).0, g))) (o.judged.did a b);
+    did_not = o.judged.did_not;
+  };
 }
 old_kept s l l' e z (speaks up old) lt i w o = record {
   reg = o.reg;
   done = o.done;
-  seen = o.seen;
-  acked = o.acked;
-  early = o.early;
-  heads = λ r. each_more (λ a. a.inc ≡ l.reg → a.epoch ≡ e → a.seen ≤ z.last) _ l.heads (λ f g. (o.seen r f g).0) (o.heads r);
-  pushes = o.pushes;
+  session = o.session;
+  heads = λ r. each_more (λ a. a.inc ≡ l.reg → a.epoch ≡ e → a.seen ≤ z.last) _ l.heads (λ f g. (o.session.seen r f g).0) (o.heads r);
   present = o.present;
-  did = o.did;
-  did_not = o.did_not;
+  judged = o.judged;
 }
 old_kept s l l' e z (writes_again op up old out) lt i w o = record {
   reg = o.reg;
   done = o.done;
-  seen = o.seen;
-  acked = o.acked;
-  early = o.early;
-  heads = λ r. each_more (λ a. a.inc ≡ l.reg → a.epoch ≡ e → a.seen ≤ z.last) _ l.heads (λ f g. (o.seen r f g).0) (o.heads r);
-  pushes = o.pushes;
+  session = o.session;
+  heads = λ r. each_more (λ a. a.inc ≡ l.reg → a.epoch ≡ e → a.seen ≤ z.last) _ l.heads (λ f g. (o.session.seen r f g).0) (o.heads r);
   present = o.present;
-  did = λ a b. each_more (λ m. m.head.inc ≡ z.reg → m.number ≡ z.done → (x : Wrote) × In x l.wrote × (x.inc ≡ z.reg) × (x.number ≡ z.done)) _ l.writes
-      (λ f g. let y = w.sent_out op out in o.did a b y.0 y.1 (y.2 ∙ f) (y.3 ∙ g)) (o.did a b);
-  did_not = o.did_not;
+  judged = record {
+    did = λ a b. each_more (λ m. m.head.inc ≡ z.reg → m.number ≡ z.done → (x : Wrote) × In x l.wrote × (x.inc ≡ z.reg) × (x.number ≡ z.done)) _ l.writes
+        (λ f g. let y = w.sent_out op out in o.judged.did a b y.0 y.1 (y.2 ∙ f) (y.3 ∙ g)) (o.judged.did a b);
+    did_not = o.judged.did_not;
+  };
 }
 old_kept s l l' e z (registers h at on newer) lt i w o = record {
   reg = omega (arith, o.reg);
   done = λ r. absurd (omega (arith, o.reg, r));
-  seen = λ r. absurd (omega (arith, o.reg, r));
-  acked = λ r. absurd (omega (arith, o.reg, r));
-  early = λ r. absurd (omega (arith, o.reg, r));
+  session = record {
+    seen = λ r. absurd (omega (arith, o.reg, r));
+    acked = λ r. absurd (omega (arith, o.reg, r));
+    early = λ r. absurd (omega (arith, o.reg, r));
+    pushes = λ r. absurd (omega (arith, o.reg, r));
+  };
   heads = λ r. absurd (omega (arith, o.reg, r));
-  pushes = λ r. absurd (omega (arith, o.reg, r));
   present = λ r. absurd (omega (arith, o.reg, r));
-  did = o.did;
-  did_not = o.did_not;
+  judged = o.judged;
 }
 old_kept s l l' e z (sees_off b at on same) lt i w o = record {
   reg = o.reg;
   done = o.done;
-  seen = o.seen;
-  acked = o.acked;
-  early = o.early;
+  session = o.session;
   heads = o.heads;
-  pushes = o.pushes;
   present = λ r m u f. absurd (true≢false (sym u ∙ (i.standing.byes b at).1 (same ∙ sym f)));
-  did = o.did;
-  did_not = o.did_not;
+  judged = o.judged;
 }
 old_kept s l l' e z (takes_report x range key at on missing same now built) lt i w o = record {
   reg = o.reg;
   done = o.done;
-  seen = o.seen;
-  acked = o.acked;
-  early = o.early;
+  session = o.session;
   heads = o.heads;
-  pushes = o.pushes;
   present = λ r m u f. let low = (i.standing.reports x at).1 (same ∙ sym f) in omega (arith, low, now, i.standing.epoch);
-  did = o.did;
-  did_not = o.did_not;
+  judged = o.judged;
 }
 old_kept s l l' e z (refuses m at ok acked next) lt i w o = record {
   reg = o.reg;
   done = λ r. omega (arith, o.done r);
-  seen = o.seen;
-  acked = o.acked;
-  early = o.early;
+  session = o.session;
   heads = o.heads;
-  pushes = o.pushes;
   present = o.present;
-  did = o.did;
-  did_not = o.did_not;
+  judged = o.judged;
 }
 old_kept s l l' e z (pushes p a ha ainc aepoch serving here acked inc epoch number says answers) lt i w o = record {
   reg = o.reg;
   done = o.done;
-  seen = o.seen;
-  acked = o.acked;
-  early = o.early;
+  session = record {
+    seen = o.session.seen;
+    acked = o.session.acked;
+    early = o.session.early;
+    pushes = λ r. each_more (λ p'. p'.inc ≡ l.reg → p'.epoch ≡ e → p'.number ≤ z.last) p l.pushes (λ f g. absurd (omega (arith, epoch, g))) (o.session.pushes r);
+  };
   heads = o.heads;
-  pushes = λ r. each_more (λ p'. p'.inc ≡ l.reg → p'.epoch ≡ e → p'.number ≤ z.last) p l.pushes (λ f g. absurd (omega (arith, epoch, g))) (o.pushes r);
   present = o.present;
-  did = o.did;
-  did_not = o.did_not;
+  judged = o.judged;
 }
-old_kept s l l' e z _ lt i w o = record {
-  reg = o.reg;
-  done = o.done;
-  seen = o.seen;
-  acked = o.acked;
-  early = o.early;
-  heads = o.heads;
-  pushes = o.pushes;
-  present = o.present;
-  did = o.did;
-  did_not = o.did_not;
-}
+old_kept s l l' e z _ lt i w o = o

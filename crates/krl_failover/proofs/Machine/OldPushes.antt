@@ -6,11 +6,8 @@ use Rattle.krl_machine.proofs.Basics.{Inv, LiveOk}
 use Rattle.krl_machine.proofs.Writes.{history_link}
 use Rattle.krl_failover.specs.Fenced.{Kept, Fenced, Turned, MayPush}
 use Rattle.krl_failover.proofs.Machine.Basics.{Extra, Old, Top, Gather}
-use Rattle.krl_failover.proofs.Machine.Pushes.{push_inv, push_extra, push_old, push_other, push_top, push_top_other, push_wrotes}
+use Rattle.krl_failover.proofs.Machine.Pushes.{push_inv, push_old, push_other, push_top, push_top_other, push_wrotes}
 use Rattle.krl_failover.proofs.Machine.Invariant.{Past, FencedInv, link_at, kept_at, changed_world, same_kept}
-
-push_gather : (s : Shared) (l : Link) (p : Push) (e : ℕ) (z : Kept) → Gather s l e z → Gather s (record l { pushes = p ∷ l.pushes }) e z
-push_gather s l p e z g = record { new = g.new; present = g.present; high = g.high; later = g.later }
 
 -- A push of any old server, once it is known to be in order if it is live, and what is stated of the bound
 
@@ -56,7 +53,7 @@ module _ (index : ℕ → Option Value) (f : Fenced) (e c : ℕ) (p : Push) (lin
   gathers rec x d le x_lt = link_at ch d (λ m. Gather f.world.shared m x (old x d))
       (λ a. kept_at t x d (Gather f.world.shared ln x)
       (λ b g. absurd (omega (arith, b, served, le)))
-      (λ g. push_gather f.world.shared (f.world.links c) p x (f.old x d) (subst (λ y. Gather f.world.shared (f.world.links y) x (f.old x d)) a (v.gather rec x d le x_lt))))
+      (λ g. subst (λ y. Gather f.world.shared (f.world.links y) x (f.old x d)) a (v.gather rec x d le x_lt)))
       (λ ne. kept_at t x d (Gather f.world.shared (f.world.links d) x) (λ b g. absurd (ne g)) (λ g. v.gather rec x d le x_lt))
 
   pairs : f.world.shared.phase ≡ Recovering → (x y d : ℕ) → 1 ≤ x → x < y → f.bound < y → y < f.world.shared.epoch → (old y d).missing ≡ false → Past (links d) y (old x d)
@@ -75,7 +72,7 @@ module _ (index : ℕ → Option Value) (f : Fenced) (e c : ℕ) (p : Push) (lin
   pushed_kept = record {
     world = changed_world index f c ln links v ch (push_inv f.world.shared (f.world.links c) e (f.old e c) p i o one lt may ok) (λ q. ((omega arith, omega arith), omega arith));
     history = history_link index f.world c ln links ch refl v.history (push_wrotes f.world.shared (f.world.links c) e (f.old e c) p i o one lt may (v.history.each c));
-    extra = λ d. link_at ch d (Extra f.world.shared) (λ a. push_extra f.world.shared (f.world.links c) e (f.old e c) p i o one lt may (v.extra c)) (λ ne. v.extra d);
+    extra = λ d. link_at ch d (Extra f.world.shared) (λ a. v.extra c) (λ ne. v.extra d);
     old = olds;
     some = v.some;
     phase = v.phase;

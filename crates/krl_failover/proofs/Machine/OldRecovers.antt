@@ -6,7 +6,7 @@ use Rattle.krl_machine.proofs.Runs.{agree_below}
 use Rattle.krl_failover.specs.Fenced.{Kept, Fenced, Turned, Finished}
 use Rattle.krl_machine.proofs.RowChanges.{Below}
 use Rattle.krl_failover.proofs.Machine.Basics.{Old, Top, Gather}
-use Rattle.krl_failover.proofs.Machine.Rebuilds.{took_gather, took_old, took_top, finished_inv, finished_falls, finished_top, finished_gather, finished_extra, finished_old, finished_wrotes, finished_who}
+use Rattle.krl_failover.proofs.Machine.Rebuilds.{took_gather, finished_inv, finished_falls, finished_top, finished_gather, finished_extra, finished_old, finished_wrotes, finished_who}
 use Rattle.krl_failover.proofs.Machine.Invariant.{FencedInv, kept_at, phase_recovers, same_kept}
 
 -- An old server that recovers takes a report
@@ -25,13 +25,13 @@ took_kept index f e c r range key old low lt at inc epoch built t v =
       history = v.history;
       extra = v.extra;
       old = λ x d o x_lt. kept_at t x d (Old s (f.world.links d) x)
-          (λ p q. subst (λ y. Old s (f.world.links d) y z) (sym p) (subst (λ y. Old s (f.world.links y) e z) (sym q) (took_old s (f.world.links c) e (f.old e c) range key (v.old e c one lt))))
+          (λ p q. subst (λ y. Old s (f.world.links d) y z) (sym p) (subst (λ y. Old s (f.world.links y) e z) (sym q) (v.old e c one lt)))
           (λ r. v.old x d o x_lt);
       some = v.some;
       phase = v.phase;
       copies = v.copies;
       top = λ rec x d le x_lt. kept_at t x d (Top s (f.world.links d) x)
-          (λ p q. subst (λ y. Top s (f.world.links d) y z) (sym p) (subst (λ y. Top s (f.world.links y) e z) (sym q) (took_top s (f.world.links c) e (f.old e c) range key (v.top rec e c (omega (arith, low)) lt))))
+          (λ p q. subst (λ y. Top s (f.world.links d) y z) (sym p) (subst (λ y. Top s (f.world.links y) e z) (sym q) (v.top rec e c (omega (arith, low)) lt)))
           (λ r. v.top rec x d le x_lt);
       gather = λ rec x d bl x_lt. kept_at t x d (Gather s (f.world.links d) x)
           (λ p q. subst (λ y. Gather s (f.world.links d) y z) (sym p) (subst (λ y. Gather s (f.world.links y) e z) (sym q)

@@ -1,21 +1,15 @@
 -- The server of the bound's epoch raises a row, or obeys a release.
 use Rattle.krl_failover.proofs.Machine.Names.{◌≡◌, ◌≢◌, ℕ, false, Option, refl, sym, subst, arith, In, RangePart, KeyPart, RangesAgree, KeysAgree, Value}
-use Rattle.krl_failover.proofs.Machine.Names.{Recovering, Release, Shared, Link, IsRow, IsSlot, SlotLowered}
+use Rattle.krl_failover.proofs.Machine.Names.{Recovering, Release, Link, IsRow, IsSlot, SlotLowered}
 use Rattle.krl_failover.proofs.Machine.Names.{Changed}
 use Rattle.krl_machine.proofs.Basics.{Inv}
 use Rattle.krl_machine.proofs.Runs.{all_agree, raise_inv}
-use Rattle.krl_machine.proofs.Writes.{Wrotes, history_link}
-use Rattle.krl_failover.specs.Fenced.{Kept, Fenced, IsHere}
+use Rattle.krl_machine.proofs.Writes.{history_link}
+use Rattle.krl_failover.specs.Fenced.{Fenced, IsHere}
 use Rattle.krl_machine.proofs.RowChanges.{Below, cut_falls}
 use Rattle.krl_failover.proofs.Machine.Basics.{Extra, Old, Top, Gather}
-use Rattle.krl_failover.proofs.Machine.BoundRows.{raised_top, rows_extra, rows_old, cut_inv, cut_top}
+use Rattle.krl_failover.proofs.Machine.BoundRows.{raised_top, cut_inv, cut_top}
 use Rattle.krl_failover.proofs.Machine.Invariant.{Past, FencedInv, link_at, changed_world, phase_serves}
-
-rows_gather : (s : Shared) (l : Link) (range : ℕ → RangePart) (key : ℕ → KeyPart) (e : ℕ) (z : Kept) → Gather s l e z → Gather s (record l { top_range = range; top_key = key }) e z
-rows_gather s l range key e z g = record { new = g.new; present = g.present; high = g.high; later = g.later }
-
-rows_wrotes : (l : Link) (range : ℕ → RangePart) (key : ℕ → KeyPart) → Wrotes l → Wrotes (record l { top_range = range; top_key = key })
-rows_wrotes l range key w = record { low = w.low; did = w.did; did_not = w.did_not; told = w.told; told_not = w.told_not; sent = w.sent; same = w.same; sent_out = w.sent_out }
 
 -- The last server that served raises a row
 
@@ -33,15 +27,15 @@ raises_kept index f c range key links row up agrees ch v =
         links = λ d. link_at ch d (Inv s) (λ a. raise_inv s (f.world.links c) range key (v.world.links c) row up) (λ ne. v.world.links d);
         agree = all_agree s s f.world.links links c l ch agrees v.world.agree;
       };
-      history = history_link index f.world c l links ch refl v.history (rows_wrotes (f.world.links c) range key (v.history.each c));
-      extra = λ d. link_at ch d (Extra s) (λ a. rows_extra s (f.world.links c) range key (v.extra c)) (λ ne. v.extra d);
-      old = λ x d o x_lt. link_at ch d (λ m. Old s m x (f.old x d)) (λ a. subst (λ y. Old s l x (f.old x y)) (sym a) (rows_old s (f.world.links c) range key x (f.old x c) (v.old x c o x_lt))) (λ ne. v.old x d o x_lt);
+      history = history_link index f.world c l links ch refl v.history (v.history.each c);
+      extra = λ d. link_at ch d (Extra s) (λ a. v.extra c) (λ ne. v.extra d);
+      old = λ x d o x_lt. link_at ch d (λ m. Old s m x (f.old x d)) (λ a. subst (λ y. Old s l x (f.old x y)) (sym a) (v.old x c o x_lt)) (λ ne. v.old x d o x_lt);
       some = v.some;
       phase = v.phase;
       copies = v.copies;
       mono = v.mono;
       top = λ rec x d le x_lt. link_at ch d (λ m. Top s m x (f.old x d)) (λ a. subst (λ y. Top s l x (f.old x y)) (sym a) (raised_top s (f.world.links c) range key x (f.old x c) up (v.top rec x c le x_lt))) (λ ne. v.top rec x d le x_lt);
-      gather = λ rec x d low x_lt. link_at ch d (λ m. Gather s m x (f.old x d)) (λ a. subst (λ y. Gather s l x (f.old x y)) (sym a) (rows_gather s (f.world.links c) range key x (f.old x c) (v.gather rec x c low x_lt))) (λ ne. v.gather rec x d low x_lt);
+      gather = λ rec x d low x_lt. link_at ch d (λ m. Gather s m x (f.old x d)) (λ a. subst (λ y. Gather s l x (f.old x y)) (sym a) (v.gather rec x c low x_lt)) (λ ne. v.gather rec x d low x_lt);
       pair = λ rec x y d o lt2 low y_lt m. link_at ch d (λ k. Past k y (f.old x d)) (λ a. subst (λ w. Past l y (f.old x w)) (sym a) (v.pair rec x y c o lt2 low y_lt (subst (λ w. (f.old y w).missing ≡ false) a m))) (λ ne. v.pair rec x y d o lt2 low y_lt m);
       past = λ rec x d o x_lt. link_at ch d (λ m. Past m f.bound (f.old x d)) (λ a. subst (λ y. Past l f.bound (f.old x y)) (sym a) (v.past rec x c o x_lt)) (λ ne. v.past rec x d o x_lt);
     }
@@ -64,15 +58,15 @@ releases_kept index f c r range key links rec here at inc epoch seen slots row c
     record {
       world = changed_world index f c l links v ch (cut_inv s (f.world.links c) f.bound (f.old f.bound c) r range key i o t rec b_lt here at inc epoch seen slots row)
           (cut_falls s (f.world.links c) r range key row i.rows.top slots);
-      history = history_link index f.world c l links ch refl v.history (rows_wrotes (f.world.links c) range key (v.history.each c));
-      extra = λ d. link_at ch d (Extra s) (λ a. rows_extra s (f.world.links c) range key (v.extra c)) (λ ne. v.extra d);
-      old = λ x d one x_lt. link_at ch d (λ m. Old s m x (f.old x d)) (λ a. subst (λ y. Old s l x (f.old x y)) (sym a) (rows_old s (f.world.links c) range key x (f.old x c) (v.old x c one x_lt))) (λ ne. v.old x d one x_lt);
+      history = history_link index f.world c l links ch refl v.history (v.history.each c);
+      extra = λ d. link_at ch d (Extra s) (λ a. v.extra c) (λ ne. v.extra d);
+      old = λ x d one x_lt. link_at ch d (λ m. Old s m x (f.old x d)) (λ a. subst (λ y. Old s l x (f.old x y)) (sym a) (v.old x c one x_lt)) (λ ne. v.old x d one x_lt);
       some = v.some;
       phase = v.phase;
       copies = v.copies;
       mono = v.mono;
       top = λ g x d le x_lt. link_at ch d (λ m. Top s m x (f.old x d)) (λ a. subst (λ y. Top s l x (f.old x y)) (sym a) (cut_top s (f.world.links c) f.bound (f.old f.bound c) r range key i o t rec b_lt here at inc epoch seen slots row x (f.old x c) le (v.top g x c le x_lt))) (λ ne. v.top g x d le x_lt);
-      gather = λ g x d low x_lt. link_at ch d (λ m. Gather s m x (f.old x d)) (λ a. subst (λ y. Gather s l x (f.old x y)) (sym a) (rows_gather s (f.world.links c) range key x (f.old x c) (v.gather g x c low x_lt))) (λ ne. v.gather g x d low x_lt);
+      gather = λ g x d low x_lt. link_at ch d (λ m. Gather s m x (f.old x d)) (λ a. subst (λ y. Gather s l x (f.old x y)) (sym a) (v.gather g x c low x_lt)) (λ ne. v.gather g x d low x_lt);
       pair = λ g x y d one lt2 low y_lt m. link_at ch d (λ k. Past k y (f.old x d)) (λ a. subst (λ w. Past l y (f.old x w)) (sym a) (v.pair g x y c one lt2 low y_lt (subst (λ w. (f.old y w).missing ≡ false) a m))) (λ ne. v.pair g x y d one lt2 low y_lt m);
       past = λ g x d one x_lt. link_at ch d (λ m. Past m f.bound (f.old x d)) (λ a. subst (λ y. Past l f.bound (f.old x y)) (sym a) (v.past g x c one x_lt)) (λ ne. v.past g x d one x_lt);
     }

@@ -3,33 +3,13 @@ use Rattle.krl_failover.proofs.Machine.Names.{◌≡◌, ℕ, ◌≤◌, ◌<◌
 use Rattle.krl_failover.proofs.Machine.Names.{Head, Notice, Shared, Link}
 use Rattle.krl_failover.proofs.Machine.Names.{Changed}
 use Rattle.krl_machine.proofs.Basics.{Inv}
-use Rattle.krl_machine.proofs.Writes.{Wrotes, history_link}
+use Rattle.krl_machine.proofs.Writes.{history_link}
 use Rattle.krl_failover.specs.Fenced.{Kept, Fenced, Turned}
 use Rattle.krl_failover.proofs.Machine.Basics.{Extra, Old, Top, Gather}
 use Rattle.krl_failover.proofs.Machine.Pushes.{notice_inv}
 use Rattle.krl_failover.proofs.Machine.Invariant.{Past, FencedInv, link_at, kept_at, changed_world, same_kept}
 
 -- An old server sends Epoch
-
-notice_extra : (s : Shared) (l : Link) (n : Notice) → Extra s l → Extra s (record l { notices = n ∷ l.notices })
-notice_extra s l n x = record { heads = x.heads; reports = x.reports; seen = x.seen }
-
-notice_old : (s : Shared) (l : Link) (n : Notice) (e : ℕ) (z : Kept) → Old s l e z → Old s (record l { notices = n ∷ l.notices }) e z
-notice_old s l n e z o = record {
-  reg = o.reg;
-  done = o.done;
-  seen = o.seen;
-  acked = o.acked;
-  early = o.early;
-  heads = o.heads;
-  pushes = o.pushes;
-  present = o.present;
-  did = o.did;
-  did_not = o.did_not;
-}
-
-notice_top : (s : Shared) (l : Link) (n : Notice) (b : ℕ) (z : Kept) → Top s l b z → Top s (record l { notices = n ∷ l.notices }) b z
-notice_top s l n b z t = record { same = t.same; low = t.low; belief = t.belief; told = t.told; reports = t.reports; off = t.off; covers = t.covers; order = t.order; new = t.new }
 
 notice_gather : (s : Shared) (l : Link) (n : Notice) (e : ℕ) (z : Kept) → 1 ≤ e → (z.missing ≡ false → n.inc ≡ l.reg → l.up ≡ true → l.inc ≡ l.reg → (e ≤ n.epoch) ⊎ (e ≤ l.epoch)) → Gather s l e z → Gather s (record l { notices = n ∷ l.notices }) e z
 notice_gather s l n e z one ok g = record {
@@ -45,9 +25,6 @@ notice_gather s l n e z one ok g = record {
       (g.present m r u f);
 }
 
-notice_wrotes : (l : Link) (n : Notice) → Wrotes l → Wrotes (record l { notices = n ∷ l.notices })
-notice_wrotes l n w = record { low = w.low; did = w.did; did_not = w.did_not; told = w.told; told_not = w.told_not; sent = w.sent; same = w.same; sent_out = w.sent_out }
-
 pub notifies_kept : (index : ℕ → Option Value) (f : Fenced) (e c : ℕ) (links : ℕ → Link) → 1 ≤ e → e < f.world.shared.epoch →
     Changed f.world.links links c (record (f.world.links c) { notices = record { inc = (f.old e c).reg; epoch = e } ∷ (f.world.links c).notices }) →
     FencedInv index f → FencedInv index (record f { world = record f.world { links = links } })
@@ -57,14 +34,14 @@ notifies_kept index f e c links one lt ch v =
     let l : Link = record (f.world.links c) { notices = n ∷ (f.world.links c).notices } in
     record {
       world = changed_world index f c l links v ch (notice_inv s (f.world.links c) e (f.old e c) lt (v.old e c one lt) (v.world.links c)) (λ q. ((omega arith, omega arith), omega arith));
-      history = history_link index f.world c l links ch refl v.history (notice_wrotes (f.world.links c) n (v.history.each c));
-      extra = λ d. link_at ch d (Extra s) (λ a. notice_extra s (f.world.links c) n (v.extra c)) (λ ne. v.extra d);
-      old = λ x d o x_lt. link_at ch d (λ m. Old s m x (f.old x d)) (λ a. subst (λ y. Old s l x (f.old x y)) (sym a) (notice_old s (f.world.links c) n x (f.old x c) (v.old x c o x_lt))) (λ ne. v.old x d o x_lt);
+      history = history_link index f.world c l links ch refl v.history (v.history.each c);
+      extra = λ d. link_at ch d (Extra s) (λ a. v.extra c) (λ ne. v.extra d);
+      old = λ x d o x_lt. link_at ch d (λ m. Old s m x (f.old x d)) (λ a. subst (λ y. Old s l x (f.old x y)) (sym a) (v.old x c o x_lt)) (λ ne. v.old x d o x_lt);
       some = v.some;
       phase = v.phase;
       copies = v.copies;
       mono = v.mono;
-      top = λ rec x d le x_lt. link_at ch d (λ m. Top s m x (f.old x d)) (λ a. subst (λ y. Top s l x (f.old x y)) (sym a) (notice_top s (f.world.links c) n x (f.old x c) (v.top rec x c le x_lt))) (λ ne. v.top rec x d le x_lt);
+      top = λ rec x d le x_lt. link_at ch d (λ m. Top s m x (f.old x d)) (λ a. subst (λ y. Top s l x (f.old x y)) (sym a) (v.top rec x c le x_lt)) (λ ne. v.top rec x d le x_lt);
       gather = λ rec x d low x_lt. link_at ch d (λ m. Gather s m x (f.old x d)) (λ a. subst (λ y. Gather s l x (f.old x y)) (sym a)
           (notice_gather s (f.world.links c) n x (f.old x c) (omega (arith, v.some, low))
           (λ m h u g. ⊎_elim (λ (k : e < x). inr (v.pair rec e x c one k low x_lt m h u g)) (λ (k : x ≤ e). inl k) (cases_lt e x))
@@ -79,21 +56,16 @@ heard_old : (s : Shared) (l : Link) (e : ℕ) (z : Kept) (a : Head) → Inv s l 
 heard_old s l e z a i at inc epoch seen o = record {
   reg = o.reg;
   done = o.done;
-  seen = o.seen;
-  acked = λ r f g t. let h = ((i.counting.heads a at).1 (inc ∙ r ∙ sym f)).1 (epoch ∙ sym g) in omega (arith, h, (o.seen r f g).0, seen);
-  early = o.early;
+  session = record {
+    seen = o.session.seen;
+    acked = λ r f g t. let h = ((i.counting.heads a at).1 (inc ∙ r ∙ sym f)).1 (epoch ∙ sym g) in omega (arith, h, (o.session.seen r f g).0, seen);
+    early = o.session.early;
+    pushes = o.session.pushes;
+  };
   heads = o.heads;
-  pushes = o.pushes;
   present = o.present;
-  did = o.did;
-  did_not = o.did_not;
+  judged = o.judged;
 }
-
-heard_top : (s : Shared) (l : Link) (b : ℕ) (z : Kept) → Top s l b z → Top s l b (record z { acked = true })
-heard_top s l b z t = record { same = t.same; low = t.low; belief = t.belief; told = t.told; reports = t.reports; off = t.off; covers = t.covers; order = t.order; new = t.new }
-
-heard_gather : (s : Shared) (l : Link) (b : ℕ) (z : Kept) → Gather s l b z → Gather s l b (record z { acked = true })
-heard_gather s l b z g = record { new = g.new; present = g.present; high = g.high; later = g.later }
 
 pub hears_kept : (index : ℕ → Option Value) (f : Fenced) (e c : ℕ) (a : Head) (old : ℕ → ℕ → Kept) → 1 ≤ e → e < f.world.shared.epoch →
     In a (f.world.links c).heads → a.inc ≡ (f.old e c).reg → a.epoch ≡ e → a.seen ≡ (f.old e c).last →
@@ -112,10 +84,10 @@ hears_kept index f e c a old one lt at inc epoch seen t v =
       phase = v.phase;
       copies = v.copies;
       top = λ rec x d le x_lt. kept_at t x d (Top s (f.world.links d) x)
-          (λ p q. subst (λ y. Top s (f.world.links y) x z) (sym q) (heard_top s (f.world.links c) x (f.old e c) (subst (λ y. Top s (f.world.links c) x (f.old y c)) p (v.top rec x c le x_lt))))
+          (λ p q. subst (λ y. Top s (f.world.links y) x z) (sym q) (subst (λ y. Top s (f.world.links c) x (f.old y c)) p (v.top rec x c le x_lt)))
           (λ r. v.top rec x d le x_lt);
       gather = λ rec x d low x_lt. kept_at t x d (Gather s (f.world.links d) x)
-          (λ p q. subst (λ y. Gather s (f.world.links y) x z) (sym q) (heard_gather s (f.world.links c) x (f.old e c) (subst (λ y. Gather s (f.world.links c) x (f.old y c)) p (v.gather rec x c low x_lt))))
+          (λ p q. subst (λ y. Gather s (f.world.links y) x z) (sym q) (subst (λ y. Gather s (f.world.links c) x (f.old y c)) p (v.gather rec x c low x_lt)))
           (λ r. v.gather rec x d low x_lt);
       mono = λ x y d o lt2 y_lt. omega (arith, same_kept t ℕ (λ k. k.reg) refl x d, same_kept t ℕ (λ k. k.reg) refl y d, v.mono x y d o lt2 y_lt);
       pair = λ rec x y d o lt2 low y_lt m r. v.pair rec x y d o lt2 low y_lt (sym (same_kept t Bool (λ k. k.missing) refl y d) ∙ m) (sym (same_kept t ℕ (λ k. k.reg) refl x d) ∙ r);

@@ -3,7 +3,7 @@ use Rattle.krl_failover.proofs.Machine.Names.{◌≡◌, ◌≢◌, ℕ, suc, �
 use Rattle.krl_machine.proofs.Basics.{Inv, LiveAt, LiveOk, PushOk}
 use Rattle.krl_machine.proofs.Writes.{Wrotes}
 use Rattle.krl_failover.specs.Fenced.{Kept, IsHere, MayPush, AnswersKept}
-use Rattle.krl_failover.proofs.Machine.Basics.{Extra, Old, Top}
+use Rattle.krl_failover.proofs.Machine.Basics.{Old, Top}
 
 -- A notice
 
@@ -69,7 +69,7 @@ module _ (s : Shared) (l : Link) (e : ℕ) (z : Kept) (p : Push) (i : Inv s l) (
     seen = λ f.
         let h = (i.counting.heads may.head may.heard).1 (may.head_inc ∙ sym may.inc ∙ f) in (
           omega (arith, h.0, may.head_epoch, may.epoch),
-          λ g. let x = to_here f in omega (arith, may.number, o.acked x.0 x.1 (sym g ∙ may.epoch) may.acked),
+          λ g. let x = to_here f in omega (arith, may.number, o.session.acked x.0 x.1 (sym g ∙ may.epoch) may.acked),
         );
     last_push = λ f g. absurd (omega (arith, may.epoch, g));
     phase = λ g. absurd (omega (arith, may.epoch, g));
@@ -117,61 +117,64 @@ module _ (s : Shared) (l : Link) (e : ℕ) (z : Kept) (p : Push) (i : Inv s l) (
         subst (λ x. p.says (op_key x) ≢ None) x w.speaks) may.answers;
   }
 
-  pub push_extra : Extra s l → Extra s (record l { pushes = p ∷ l.pushes })
-  push_extra x = record { heads = x.heads; reports = x.reports; seen = x.seen }
-
   pub push_old : Old s (record l { pushes = p ∷ l.pushes }) e (record z { last = suc z.last; acked = false })
   push_old = record {
     reg = o.reg;
     done = o.done;
-    seen = λ r f g. let a = o.acked r f g may.acked in (omega (arith, a), omega (arith, a));
-    acked = λ r f g a. absurd (true≢false (sym a));
-    early = λ r f g. absurd (omega (arith, ((i.counting.heads may.head may.heard).1 (may.head_inc ∙ r ∙ sym f)).0, may.head_epoch, g));
+    session = record {
+      seen = λ r f g. let a = o.session.acked r f g may.acked in (omega (arith, a), omega (arith, a));
+      acked = λ r f g a. absurd (true≢false (sym a));
+      early = λ r f g. absurd (omega (arith, ((i.counting.heads may.head may.heard).1 (may.head_inc ∙ r ∙ sym f)).0, may.head_epoch, g));
+      pushes = λ r. each_more (λ p'. p'.inc ≡ l.reg → p'.epoch ≡ e → p'.number ≤ suc z.last) p l.pushes (λ f g. omega (arith, may.number)) (λ p' at f g. omega (arith, o.session.pushes r p' at f g));
+    };
     heads = λ r a at f g. omega (arith, o.heads r a at f g);
-    pushes = λ r. each_more (λ p'. p'.inc ≡ l.reg → p'.epoch ≡ e → p'.number ≤ suc z.last) p l.pushes (λ f g. omega (arith, may.number)) (λ p' at f g. omega (arith, o.pushes r p' at f g));
     present = o.present;
-    did = o.did;
-    did_not = o.did_not;
+    judged = o.judged;
   }
 
   pub push_other : (f : ℕ) (y : Kept) → f ≢ e → Old s l f y → Old s (record l { pushes = p ∷ l.pushes }) f y
   push_other f y ne x = record {
     reg = x.reg;
     done = x.done;
-    seen = x.seen;
-    acked = x.acked;
-    early = x.early;
+    session = record {
+      seen = x.session.seen;
+      acked = x.session.acked;
+      early = x.session.early;
+      pushes = λ r. each_more (λ p'. p'.inc ≡ l.reg → p'.epoch ≡ f → p'.number ≤ y.last) p l.pushes (λ g h. absurd (ne (sym h ∙ may.epoch))) (x.session.pushes r);
+    };
     heads = x.heads;
-    pushes = λ r. each_more (λ p'. p'.inc ≡ l.reg → p'.epoch ≡ f → p'.number ≤ y.last) p l.pushes (λ g h. absurd (ne (sym h ∙ may.epoch))) (x.pushes r);
     present = x.present;
-    did = x.did;
-    did_not = x.did_not;
+    judged = x.judged;
   }
 
   -- the last server that served pushes itself, or another one does
   pub push_top : Top s l e z → Top s (record l { pushes = p ∷ l.pushes }) e (record z { last = suc z.last; acked = false })
   push_top t = record {
-    same = t.same;
-    low = each_more (λ p'. p'.inc ≡ l.reg → p'.epoch ≤ e) p l.pushes (λ f. omega (arith, may.epoch)) t.low;
+    sent = record {
+      same = t.sent.same;
+      low = each_more (λ p'. p'.inc ≡ l.reg → p'.epoch ≤ e) p l.pushes (λ f. omega (arith, may.epoch)) t.sent.low;
+      told = λ zr r at a c d. absurd (omega (arith, o.heads zr r.head (i.counting.releases r at) a c, d));
+      off = t.sent.off;
+      order = t.sent.order;
+    };
     belief = λ zr r at a c d. absurd (omega (arith, o.heads zr r.head (i.counting.releases r at) a c, d));
-    told = λ zr r at a c d. absurd (omega (arith, o.heads zr r.head (i.counting.releases r at) a c, d));
     reports = t.reports;
-    off = t.off;
     covers = t.covers;
-    order = t.order;
     new = t.new;
   }
 
   pub push_top_other : (b : ℕ) (y : Kept) → (p.inc ≡ l.reg → e ≤ b) → Top s l b y → Top s (record l { pushes = p ∷ l.pushes }) b y
   push_top_other b y older t = record {
-    same = t.same;
-    low = each_more (λ p'. p'.inc ≡ l.reg → p'.epoch ≤ b) p l.pushes (λ f. omega (arith, may.epoch, older f)) t.low;
+    sent = record {
+      same = t.sent.same;
+      low = each_more (λ p'. p'.inc ≡ l.reg → p'.epoch ≤ b) p l.pushes (λ f. omega (arith, may.epoch, older f)) t.sent.low;
+      told = t.sent.told;
+      off = t.sent.off;
+      order = t.sent.order;
+    };
     belief = t.belief;
-    told = t.told;
     reports = t.reports;
-    off = t.off;
     covers = t.covers;
-    order = t.order;
     new = t.new;
   }
 
@@ -185,10 +188,10 @@ module _ (s : Shared) (l : Link) (e : ℕ) (z : Kept) (p : Push) (i : Inv s l) (
     sent_out = w.sent_out;
     told = each_more (λ p'. 1 ≤ p'.answers → p'.applied ≡ true → (x : Wrote) × In x l.wrote × (x.inc ≡ p'.inc) × (x.number ≡ p'.answers)) p l.pushes
         (λ some t. ⊎_elim (λ (a : p.answers ≡ 0). absurd (omega (arith, a)))
-        (λ (a : AnswersKept l z p). let d = o.did (sym a.applied ∙ t) (omega (arith, a.answers)) a.write a.sent a.inc a.number in (d.0, d.1, d.2 ∙ sym may.inc, d.3 ∙ sym a.answers)) may.answers)
+        (λ (a : AnswersKept l z p). let d = o.judged.did (sym a.applied ∙ t) (omega (arith, a.answers)) a.write a.sent a.inc a.number in (d.0, d.1, d.2 ∙ sym may.inc, d.3 ∙ sym a.answers)) may.answers)
         w.told;
     told_not = each_more (λ p'. 1 ≤ p'.answers → p'.applied ≡ false → (x : Wrote) → In x l.wrote → x.inc ≡ p'.inc → x.number ≢ p'.answers) p l.pushes
         (λ some t. ⊎_elim (λ (a : p.answers ≡ 0). absurd (omega (arith, a)))
-        (λ (a : AnswersKept l z p). λ x at f g. o.did_not (sym a.applied ∙ t) x at (f ∙ may.inc) (g ∙ a.answers)) may.answers)
+        (λ (a : AnswersKept l z p). λ x at f g. o.judged.did_not (sym a.applied ∙ t) x at (f ∙ may.inc) (g ∙ a.answers)) may.answers)
         w.told_not;
   }

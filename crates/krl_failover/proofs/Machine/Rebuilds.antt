@@ -8,7 +8,7 @@ use Rattle.krl_machine.proofs.Writes.{Wrotes}
 use Rattle.krl_failover.specs.Fenced.{Kept, IsHere, Finished, here_rows, gone_rows}
 use Rattle.krl_machine.proofs.RowChanges.{Below, blank_below, rebuilt_below, rebuilt_above}
 use Rattle.krl_failover.proofs.Machine.Basics.{Extra, Old, Top, Gather}
-use Rattle.krl_failover.proofs.Machine.BoundRows.{rows_extra, rows_old, off_mono}
+use Rattle.krl_failover.proofs.Machine.BoundRows.{off_mono}
 
 -- An old server that recovers takes a report
 
@@ -28,27 +28,10 @@ module _ (s : Shared) (l : Link) (b e : ℕ) (y z : Kept) (r : Report) (ranges :
         (t.covers r at (inc ∙ h.0) (omega (arith, epoch)) (omega (arith, i.standing.reg))) q)
         (cases_lt l.reg l.inc);
     later = λ m h x xat xi xe q. rebuilt_above s r ranges keys l.top_range l.top_key built i.rows.top x.range x.key
-        (λ q g far none k. off_mono (x.range q) g (x.key q) (t.off x xat xi (omega (arith, xe)) q far none) k)
+        (λ q g far none k. off_mono (x.range q) g (x.key q) (t.sent.off x xat xi (omega (arith, xe)) q far none) k)
         (t.reports h.1 x xat xi (omega (arith, xe)))
-        (t.order x r xat at xi (inc ∙ h.0) (omega (arith, epoch)) (omega (arith, epoch, xe))) q;
+        (t.sent.order x r xat at xi (inc ∙ h.0) (omega (arith, epoch)) (omega (arith, epoch, xe))) q;
   }
-
-pub took_old : (s : Shared) (l : Link) (e : ℕ) (z : Kept) (ranges : ℕ → RangePart) (keys : ℕ → KeyPart) → Old s l e z → Old s l e (record z { missing = false; new_range = ranges; new_key = keys })
-took_old s l e z ranges keys o = record {
-  reg = o.reg;
-  done = o.done;
-  seen = o.seen;
-  acked = o.acked;
-  early = o.early;
-  heads = o.heads;
-  pushes = o.pushes;
-  present = o.present;
-  did = o.did;
-  did_not = o.did_not;
-}
-
-pub took_top : (s : Shared) (l : Link) (e : ℕ) (z : Kept) (ranges : ℕ → RangePart) (keys : ℕ → KeyPart) → Top s l e z → Top s l e (record z { missing = false; new_range = ranges; new_key = keys })
-took_top s l e z ranges keys t = record { same = t.same; low = t.low; belief = t.belief; told = t.told; reports = t.reports; off = t.off; covers = t.covers; order = t.order; new = t.new }
 
 -- It has every report
 
@@ -68,7 +51,7 @@ module _ (s : Shared) (l : Link) (b e : ℕ) (y z : Kept) (i : Inv s l) (t : Top
   none_live_here : IsHere l z → (p : Push) → In p l.pushes → IsLive l p → ⊥
   none_live_here h p at live =
       let same = live_registered s l p i.standing i.counting at live in
-      ⊎_elim (λ (a : e ≤ l.epoch). omega (arith, a, t.low p at (live.inc ∙ same), live.epoch))
+      ⊎_elim (λ (a : e ≤ l.epoch). omega (arith, a, t.sent.low p at (live.inc ∙ same), live.epoch))
       (λ (a : (l.epoch ≡ 0) × ((n : Notice) → In n l.notices → n.inc ≡ l.reg → e ≤ n.epoch)). omega (arith, a.0, live.epoch, (i.counting.pushes p at).low))
       (g.present all h.0 live.up same)
 
@@ -108,32 +91,28 @@ module _ (s : Shared) (l : Link) (b e : ℕ) (y z : Kept) (i : Inv s l) (t : Top
 
   pub finished_top : (l' : Link) → Finished l z l' → (f : ℕ) (x : Kept) → e ≤ f → Top s l f x → Top s l' f x
   finished_top l' (here_rows h) f x le u = record {
-    same = u.same;
-    low = u.low;
+    sent = u.sent;
     belief = u.belief;
-    told = u.told;
     reports = λ lf r at ri re. g.later all h r at ri (omega (arith, re));
-    off = u.off;
     covers = u.covers;
-    order = u.order;
     new = u.new;
   }
   finished_top l' (gone_rows h) f x le u = u
 
 pub finished_gather : (s : Shared) (l l' : Link) (z : Kept) → Finished l z l' → (f : ℕ) (x : Kept) → Gather s l f x → Gather s l' f x
-finished_gather s l l' z (here_rows h) f x g = record { new = g.new; present = g.present; high = g.high; later = g.later }
+finished_gather s l l' z (here_rows h) f x g = g
 finished_gather s l l' z (gone_rows h) f x g = g
 
 pub finished_extra : (s : Shared) (l l' : Link) (z : Kept) → Finished l z l' → Extra s l → Extra s l'
-finished_extra s l l' z (here_rows h) x = rows_extra s l z.new_range z.new_key x
+finished_extra s l l' z (here_rows h) x = x
 finished_extra s l l' z (gone_rows h) x = x
 
 pub finished_old : (s : Shared) (l l' : Link) (z : Kept) → Finished l z l' → (f : ℕ) (x : Kept) → Old s l f x → Old s l' f x
-finished_old s l l' z (here_rows h) f x o = rows_old s l z.new_range z.new_key f x o
+finished_old s l l' z (here_rows h) f x o = o
 finished_old s l l' z (gone_rows h) f x o = o
 
 pub finished_wrotes : (l l' : Link) (z : Kept) → Finished l z l' → Wrotes l → Wrotes l' × (l'.wrote ≡ l.wrote)
-finished_wrotes l l' z (here_rows h) w = (record { low = w.low; did = w.did; did_not = w.did_not; told = w.told; told_not = w.told_not; sent = w.sent; same = w.same; sent_out = w.sent_out }, refl)
+finished_wrotes l l' z (here_rows h) w = (w, refl)
 finished_wrotes l l' z (gone_rows h) w = (w, refl)
 
 pub finished_who : (l l' : Link) (z : Kept) → Finished l z l' → (l'.reg ≡ l.reg) × (l'.up ≡ l.up) × (l'.inc ≡ l.inc) × (l'.epoch ≡ l.epoch)

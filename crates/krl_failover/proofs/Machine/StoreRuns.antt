@@ -1,5 +1,5 @@
 -- The steps of clients and of the store's server keep the invariant.
-use Rattle.krl_failover.proofs.Machine.Names.{◌≡◌, ◌≢◌, ℕ, zero, suc, ◌≤◌, ◌<◌, ◌∷◌, Bool, true, false, Option, List, ◌⊎◌, inl, inr, refl, sym, ap, subst, ◌∙◌, true≢false, arith, each_more, KeyPart, Value}
+use Rattle.krl_failover.proofs.Machine.Names.{◌≡◌, ◌≢◌, ℕ, zero, suc, ◌≤◌, ◌<◌, ◌∷◌, true, false, Option, ◌⊎◌, inl, inr, refl, sym, ap, subst, ◌∙◌, true≢false, arith, each_more, KeyPart, Value}
 use Rattle.krl_failover.proofs.Machine.Names.{Down, Recovering, Serving, Shared, Link, Wrote}
 use Rattle.krl_failover.proofs.Machine.Names.{World, Step, at_link, raises, applies, crash, start, finish, wrote_by, LinkStep, starts, crashes, leaves, joins, registers}
 use Rattle.krl_machine.proofs.Basics.{Inv}
@@ -11,61 +11,38 @@ use Rattle.krl_failover.specs.Fenced.{Kept, Fenced}
 use Rattle.krl_failover.proofs.Machine.Basics.{Extra, Old, Top, Gather}
 use Rattle.krl_failover.proofs.Machine.KeptCounts.{extra_kept, old_kept}
 use Rattle.krl_failover.proofs.Machine.KeptBounds.{top_kept, gather_kept}
-use Rattle.krl_failover.proofs.Machine.BoundRows.{rows_extra, rows_old}
 use Rattle.krl_failover.proofs.Machine.Invariant.{Past, FencedInv, link_at, phase_serves, is_on}
 
 -- A step of a client, or of the store's server
-
--- the index and the writer's record change
-applied_extra : (s : Shared) (l : Link) (index : ℕ → Option Value) (done : ℕ) (applied : Bool) (wrote : List Wrote) (key : ℕ → KeyPart) → Extra s l → Extra (record s { index = index }) (record l { done = done; applied = applied; wrote = wrote; top_key = key })
-applied_extra s l index done applied wrote key x = record { heads = x.heads; reports = x.reports; seen = x.seen }
-
-index_extra : (s : Shared) (l : Link) (index : ℕ → Option Value) → Extra s l → Extra (record s { index = index }) l
-index_extra s l index x = record { heads = x.heads; reports = x.reports; seen = x.seen }
-
-index_old : (s : Shared) (l : Link) (index : ℕ → Option Value) (e : ℕ) (z : Kept) → Old s l e z → Old (record s { index = index }) l e z
-index_old s l index e z o = record {
-  reg = o.reg;
-  done = o.done;
-  seen = o.seen;
-  acked = o.acked;
-  early = o.early;
-  heads = o.heads;
-  pushes = o.pushes;
-  present = o.present;
-  did = o.did;
-  did_not = o.did_not;
-}
 
 applied_old : (s : Shared) (l : Link) (index : ℕ → Option Value) (w : Wrote) (key : ℕ → KeyPart) (e : ℕ) (z : Kept) → w.inc ≡ l.reg → w.number ≡ suc l.done → Old s l e z → Old (record s { index = index }) (record l { done = suc l.done; applied = true; wrote = w ∷ l.wrote; top_key = key }) e z
 applied_old s l index w key e z winc wnum o = record {
   reg = o.reg;
   done = λ r. omega (arith, o.done r);
-  seen = o.seen;
-  acked = o.acked;
-  early = o.early;
+  session = o.session;
   heads = o.heads;
-  pushes = o.pushes;
   present = o.present;
-  did = λ a b m at f g. let d = o.did a b m at f g in (d.0, inr d.1, d.2, d.3);
-  did_not = λ a. each_more (λ x. x.inc ≡ z.reg → x.number ≢ z.done) w l.wrote (λ g h. omega (arith, o.done (sym g ∙ winc), wnum, h)) (o.did_not a);
+  judged = record {
+    did = λ a b m at f g. let d = o.judged.did a b m at f g in (d.0, inr d.1, d.2, d.3);
+    did_not = λ a. each_more (λ x. x.inc ≡ z.reg → x.number ≢ z.done) w l.wrote (λ g h. omega (arith, o.done (sym g ∙ winc), wnum, h)) (o.judged.did_not a);
+  };
 }
 
 runs_extra : (w u : World) → Step w u → u.shared.phase ≡ w.shared.phase → w.shared.phase ≢ Down → WorldInv w → ((c : ℕ) → Extra w.shared (w.links c)) → (d : ℕ) → Extra u.shared (u.links d)
 runs_extra w u (at_link c l links step ch) same on i x d = link_at ch d (Extra w.shared) (λ e. extra_kept w.shared (w.links c) l step (i.links c) (x c)) (λ ne. x d)
-runs_extra w u (raises c range key links serving row up agrees ch) same on i x d = link_at ch d (Extra w.shared) (λ e. rows_extra w.shared (w.links c) range key (x c)) (λ ne. x d)
-runs_extra w u (applies c m index key links at ok acked next ap' ch) same on i x d = link_at ch d (Extra (record w.shared { index = index })) (λ e. applied_extra w.shared (w.links c) index (suc (w.links c).done) true (wrote_by (w.links c) m ∷ (w.links c).wrote) key (x c)) (λ ne. index_extra w.shared (w.links d) index (x d))
+runs_extra w u (raises c range key links serving row up agrees ch) same on i x d = link_at ch d (Extra w.shared) (λ e. x c) (λ ne. x d)
+runs_extra w u (applies c m index key links at ok acked next ap' ch) same on i x d = link_at ch d (Extra (record w.shared { index = index })) (λ e. x c) (λ ne. x d)
 runs_extra w u (crash up) same on i x d = absurd (on (sym same))
 runs_extra w u (start missing down is) same on i x d = absurd (on down)
 runs_extra w u (finish rec all) same on i x d = absurd (not_both refl (same ∙ rec))
 
 runs_old : (w u : World) (old : ℕ → ℕ → Kept) (e : ℕ) → Step w u → u.shared.phase ≡ w.shared.phase → w.shared.phase ≢ Down → WorldInv w → ((c : ℕ) → Wrotes (w.links c)) → e < w.shared.epoch → ((c : ℕ) → Old w.shared (w.links c) e (old e c)) → (d : ℕ) → Old u.shared (u.links d) e (old e d)
 runs_old w u old e (at_link c l links step ch) same on i h lt o d = link_at ch d (λ m. Old w.shared m e (old e d)) (λ a. subst (λ x. Old w.shared l e (old e x)) (sym a) (old_kept w.shared (w.links c) l e (old e c) step lt (i.links c) (h c) (o c))) (λ ne. o d)
-runs_old w u old e (raises c range key links serving row up agrees ch) same on i h lt o d = link_at ch d (λ m. Old w.shared m e (old e d)) (λ a. subst (λ x. Old w.shared (record (w.links c) { top_range = range; top_key = key }) e (old e x)) (sym a) (rows_old w.shared (w.links c) range key e (old e c) (o c))) (λ ne. o d)
+runs_old w u old e (raises c range key links serving row up agrees ch) same on i h lt o d = link_at ch d (λ m. Old w.shared m e (old e d)) (λ a. subst (λ x. Old w.shared (record (w.links c) { top_range = range; top_key = key }) e (old e x)) (sym a) (o c)) (λ ne. o d)
 runs_old w u old e (applies c m index key links at ok acked next ap' ch) same on i h lt o d = link_at ch d (λ y. Old (record w.shared { index = index }) y e (old e d))
     (λ a. subst (λ x. Old (record w.shared { index = index }) (record (w.links c) { done = suc (w.links c).done; applied = true; wrote = wrote_by (w.links c) m ∷ (w.links c).wrote; top_key = key }) e (old e x)) (sym a)
     (applied_old w.shared (w.links c) index (wrote_by (w.links c) m) key e (old e c) refl refl (o c)))
-    (λ ne. index_old w.shared (w.links d) index e (old e d) (o d))
+    (λ ne. o d)
 runs_old w u old e (crash up) same on i h lt o d = absurd (on (sym same))
 runs_old w u old e (start missing down is) same on i h lt o d = absurd (on down)
 runs_old w u old e (finish rec all) same on i h lt o d = absurd (not_both refl (same ∙ rec))
@@ -95,7 +72,7 @@ runs_past w u old C b e (start missing down is) same rec i le p d k = let x = sy
 runs_past w u old C b e (finish rec' all) same rec i le p d k = absurd (not_both refl (same ∙ rec))
 
 runs_gather : (w u : World) (old : ℕ → ℕ → Kept) (b e : ℕ) → Step w u → u.shared.phase ≡ w.shared.phase → w.shared.phase ≡ Recovering → b < e → e < w.shared.epoch → WorldInv w → ((c : ℕ) → Top w.shared (w.links c) b (old b c)) → ((c : ℕ) → Old w.shared (w.links c) e (old e c)) → ((c : ℕ) → Gather w.shared (w.links c) e (old e c)) → (d : ℕ) → Gather u.shared (u.links d) e (old e d)
-runs_gather w u old b e (at_link c l links step ch) same rec lt lt' i t o g d = link_at ch d (λ m. Gather w.shared m e (old e d)) (λ a. subst (λ y. Gather w.shared l e (old e y)) (sym a) (gather_kept w.shared (w.links c) l b e (old e c) step lt lt' (i.links c) (t c).low (o c) (g c))) (λ ne. g d)
+runs_gather w u old b e (at_link c l links step ch) same rec lt lt' i t o g d = link_at ch d (λ m. Gather w.shared m e (old e d)) (λ a. subst (λ y. Gather w.shared l e (old e y)) (sym a) (gather_kept w.shared (w.links c) l b e (old e c) step lt lt' (i.links c) (t c).sent.low (o c) (g c))) (λ ne. g d)
 runs_gather w u old b e (raises c range key links serving row up agrees ch) same rec lt lt' i t o g d = absurd (not_both serving rec)
 runs_gather w u old b e (applies c m index key links at ok acked next ap' ch) same rec lt lt' i t o g d = absurd (not_both ok.serving rec)
 runs_gather w u old b e (crash up) same rec lt lt' i t o g d = absurd (up (sym same))
@@ -136,20 +113,6 @@ runs_kept index f u step p ep v = record {
 
 -- The store's server has every report
 
-serving_old : (s : Shared) (l : Link) (e : ℕ) (z : Kept) → Old s l e z → Old (record s { phase = Serving }) (record l { top_range = l.new_range; top_key = l.new_key }) e z
-serving_old s l e z o = record {
-  reg = o.reg;
-  done = o.done;
-  seen = o.seen;
-  acked = o.acked;
-  early = o.early;
-  heads = o.heads;
-  pushes = o.pushes;
-  present = o.present;
-  did = o.did;
-  did_not = o.did_not;
-}
-
 pub finishes_kept : (index : ℕ → Option Value) (f : Fenced) (rec : f.world.shared.phase ≡ Recovering) (all : (c : ℕ) → (f.world.links c).missing ≡ false) → FencedInv index f → FencedInv index (record {
   world = record {
     shared = record f.world.shared { phase = Serving };
@@ -163,8 +126,8 @@ pub finishes_kept : (index : ℕ → Option Value) (f : Fenced) (rec : f.world.s
 finishes_kept index f rec all v = record {
   world = world_kept f.world _ (finish rec all) v.world;
   history = history_kept index f.world _ (finish rec all) v.world v.history;
-  extra = λ c. let x = v.extra c in record { heads = x.heads; reports = x.reports; seen = x.seen };
-  old = λ e c one lt. serving_old f.world.shared (f.world.links c) e (f.old e c) (v.old e c one lt);
+  extra = v.extra;
+  old = v.old;
   some = (v.world.links 0).standing.server;
   phase = inl (refl, refl);
   copies = λ r. absurd (not_both refl r);

@@ -40,28 +40,25 @@ module _ (index : ℕ → Option Value) (f : Fenced) (missing : ℕ → Bool) (i
       record {
         reg = omega arith;
         done = λ r. omega arith;
-        seen = λ r g h. i.counting.seen g h;
-        acked = λ r g h a. i.counting.acked g h a;
-        early = λ r g h. i.counting.early g h;
+        session = record {
+          seen = λ r g h. i.counting.seen g h;
+          acked = λ r g h a. i.counting.acked g h a;
+          early = λ r g h. i.counting.early g h;
+          pushes = λ r p at g h. (i.counting.pushes p at).last_push g h;
+        };
         heads = λ r. x.seen;
-        pushes = λ r p at g h. (i.counting.pushes p at).last_push g h;
         present = λ r m u e. absurd (absent c m u e);
-        did = w.did;
-        did_not = w.did_not;
+        judged = record { did = w.did; did_not = w.did_not };
       }
 
   past_old : (e c : ℕ) → Old f.world.shared (f.world.links c) e (f.old e c) → Old shared' (link' c) e (f.old e c)
   past_old e c o = record {
     reg = o.reg;
     done = o.done;
-    seen = o.seen;
-    acked = o.acked;
-    early = o.early;
+    session = o.session;
     heads = o.heads;
-    pushes = o.pushes;
     present = λ r m u g. absurd (absent c m u g);
-    did = o.did;
-    did_not = o.did_not;
+    judged = o.judged;
   }
 
   each_old : (e c : ℕ) → 1 ≤ e → e < suc f.world.shared.epoch → Old shared' (link' c) e (old' e c)
@@ -73,32 +70,30 @@ module _ (index : ℕ → Option Value) (f : Fenced) (missing : ℕ → Bool) (i
   served_top c =
       let i = v.world.links c in
       record {
-        same = λ r. (refl, refl);
-        low = λ p at e. (i.counting.pushes p at).epoch;
+        sent = record {
+          same = λ r. (refl, refl);
+          low = λ p at e. (i.counting.pushes p at).epoch;
+          told = λ zr r at a b d x xat e g. absurd (omega (arith, (i.standing.reports x xat).2, g));
+          off = λ x xat e g. absurd (omega (arith, (i.standing.reports x xat).2, g));
+          order = λ x y xat yat e a g. absurd (omega (arith, (i.standing.reports y yat).2, g));
+        };
         belief = λ zr r at a b d e q lo hi.
             let h = (i.counting.heads r.head (i.counting.releases r at)).1 (a ∙ sym e) in
             let now : (f.world.links c).epoch ≡ f.world.shared.epoch = omega (arith, h.0, b, i.standing.epoch) in
             let k = h.1 (b ∙ sym now) in
             let n = (i.counting.seen e now).0 in
             i.released r at (a ∙ sym e) (b ∙ sym now) (omega (arith, k, n, d)) q lo hi;
-        told = λ zr r at a b d x xat e g. absurd (omega (arith, (i.standing.reports x xat).2, g));
         reports = λ lf x xat e g. absurd (omega (arith, (i.standing.reports x xat).2, g));
-        off = λ x xat e g. absurd (omega (arith, (i.standing.reports x xat).2, g));
         covers = λ x xat e g. absurd (omega (arith, (i.standing.reports x xat).2, g));
-        order = λ x y xat yat e a g. absurd (omega (arith, (i.standing.reports y yat).2, g));
         new = inl (λ q. (refl, refl));
       }
 
   again_top : (c b : ℕ) (z : Kept) → Top f.world.shared (f.world.links c) b z → Top shared' (link' c) b z
   again_top c b z t = record {
-    same = t.same;
-    low = t.low;
+    sent = t.sent;
     belief = t.belief;
-    told = t.told;
     reports = t.reports;
-    off = t.off;
     covers = t.covers;
-    order = t.order;
     new = inl (λ q. (refl, refl));
   }
 
