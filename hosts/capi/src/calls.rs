@@ -36,7 +36,7 @@ use crate::client::Joined;
 use crate::code::Code;
 use crate::fault::{ErrorRoom, Fault, answer};
 use crate::input::{self, GivenRow, range};
-use crate::options::{NUMBERS, Options};
+use crate::options::{NUMBERS, Options, Wish};
 use crate::status::Status;
 use crate::writes::{GivenWrite, write_all, writes};
 use krl::{ErrorKind, Outcome, Row, Waited};
@@ -58,6 +58,49 @@ static CLIENTS: Kind<Joined> = Kind::new("client");
 unsafe fn own<'a>(client: *const Client) -> Result<&'a Joined, Fault> {
     // SAFETY: the caller vouches for the handle.
     Ok(unsafe { CLIENTS.own_value(client) }?)
+}
+
+/// Makes a call of a client.
+///
+/// # Safety
+///
+/// As the header requires of the calls below.
+unsafe fn by(
+    client: *const Client,
+    error: *mut ErrorRoom,
+    call: impl FnOnce(&Joined) -> Result<Code, Fault>,
+) -> u32 {
+    // SAFETY: the caller frees the client after this call, and vouches for the room of the error.
+    unsafe { answer(error, || call(own(client)?)) }
+}
+
+/// Opens what is made by these options, under this name, and hands its handle out.
+///
+/// # Safety
+///
+/// As the header requires of the calls below.
+unsafe fn open<'o, V: Send + Sync>(
+    kind: &'static Kind<V>,
+    (name, out): (&'static str, *mut *mut Handle<V>),
+    options: *const Options,
+    error: *mut ErrorRoom,
+    make: impl FnOnce(Wish<'o>) -> Result<V, Fault>,
+) -> u32 {
+    let open = || {
+        // SAFETY: the caller vouches for the room, the options and their texts.
+        unsafe { put_out(name, out, ptr::null_mut()) }?;
+        // SAFETY: as above.
+        let options = unsafe { options_at(options) }?;
+        // SAFETY: as above.
+        let wish = unsafe { options.wish() }?;
+        fork::watch()?;
+        let opened = kind.open(make(wish)?)?;
+        // SAFETY: as above.
+        unsafe { put_out(name, out, opened) }?;
+        Ok(Code::Ok)
+    };
+    // SAFETY: the caller vouches for the room of the error.
+    unsafe { answer(error, open) }
 }
 
 #[unsafe(no_mangle)]
@@ -83,21 +126,9 @@ pub unsafe extern "C" fn krlc_join(
     client: *mut *mut Client,
     error: *mut ErrorRoom,
 ) -> u32 {
-    let join = || {
-        // SAFETY: the caller vouches for the room, the options and their texts.
-        unsafe { put_out("a client", client, ptr::null_mut()) }?;
-        // SAFETY: as above.
-        let options = unsafe { options_at(options) }?;
-        // SAFETY: as above.
-        let wish = unsafe { options.wish() }?;
-        fork::watch()?;
-        let joined = CLIENTS.open(wish.join()?)?;
-        // SAFETY: as above.
-        unsafe { put_out("a client", client, joined) }?;
-        Ok(Code::Ok)
-    };
-    // SAFETY: the caller vouches for the room of the error.
-    unsafe { answer(error, join) }
+    let room = ("a client", client);
+    // SAFETY: the caller vouches for the room, the options and their texts.
+    unsafe { open(&CLIENTS, room, options, error, Wish::join) }
 }
 
 #[unsafe(no_mangle)]
@@ -119,13 +150,9 @@ pub unsafe extern "C" fn krlc_leave(
     timeout_ms: u64,
     error: *mut ErrorRoom,
 ) -> u32 {
-    let leave = || {
-        // SAFETY: the caller frees the client after this call.
-        unsafe { own(client) }?.within(timeout_ms).leave()?;
-        Ok(Code::Ok)
-    };
-    // SAFETY: the caller vouches for the room of the error.
-    unsafe { answer(error, leave) }
+    let leave = |joined: &Joined| Ok(joined.within(timeout_ms).leave().map(|()| Code::Ok)?);
+    // SAFETY: the caller vouches for the client and the room.
+    unsafe { by(client, error, leave) }
 }
 
 #[unsafe(no_mangle)]
@@ -140,50 +167,37 @@ pub unsafe extern "C" fn krlc_set_timeout(
     timeout_ms: u64,
     error: *mut ErrorRoom,
 ) -> u32 {
-    let set = || {
-        // SAFETY: the caller frees the client after this call.
-        let joined = unsafe { own(client) }?;
+    let set = |joined: &Joined| {
         if timeout_ms == 0 {
             return Err(Fault::misuse("a timeout is at least 1 millisecond"));
         }
         joined.client().set_timeout(Duration::from_millis(timeout_ms));
         Ok(Code::Ok)
     };
-    // SAFETY: the caller vouches for the room of the error.
-    unsafe { answer(error, set) }
+    // SAFETY: the caller vouches for the client and the room.
+    unsafe { by(client, error, set) }
 }
 
 #[unsafe(no_mangle)]
 pub unsafe extern "C" fn krlc_keep_all(client: *mut Client, error: *mut ErrorRoom) -> u32 {
-    let keep = || {
-        // SAFETY: the caller frees the client after this call.
-        unsafe { own(client) }?.client().keep_all();
+    let keep = |joined: &Joined| {
+        joined.client().keep_all();
         Ok(Code::Ok)
     };
-    // SAFETY: the caller vouches for the room of the error.
-    unsafe { answer(error, keep) }
+    // SAFETY: the caller vouches for the client and the room.
+    unsafe { by(client, error, keep) }
 }
 
 #[unsafe(no_mangle)]
 pub unsafe extern "C" fn krlc_follow(client: *mut Client, error: *mut ErrorRoom) -> u32 {
-    let follow = || {
-        // SAFETY: the caller frees the client after this call.
-        unsafe { own(client) }?.follow()?;
-        Ok(Code::Ok)
-    };
-    // SAFETY: the caller vouches for the room of the error.
-    unsafe { answer(error, follow) }
+    // SAFETY: the caller vouches for the client and the room.
+    unsafe { by(client, error, |joined| joined.follow().map(|()| Code::Ok)) }
 }
 
 #[unsafe(no_mangle)]
 pub unsafe extern "C" fn krlc_reload_tls(client: *mut Client, error: *mut ErrorRoom) -> u32 {
-    let reload = || {
-        // SAFETY: the caller frees the client after this call.
-        unsafe { own(client) }?.reload_tls()?;
-        Ok(Code::Ok)
-    };
-    // SAFETY: the caller vouches for the room of the error.
-    unsafe { answer(error, reload) }
+    // SAFETY: the caller vouches for the client and the room.
+    unsafe { by(client, error, |joined| joined.reload_tls().map(|()| Code::Ok)) }
 }
 
 #[unsafe(no_mangle)]
@@ -207,15 +221,14 @@ pub unsafe extern "C" fn krlc_status_at(
     status: *mut Status,
     error: *mut ErrorRoom,
 ) -> u32 {
-    let show = || {
-        // SAFETY: the caller frees the client after this call.
-        let shown = Status::at(unsafe { own(client) }?.client(), place)?;
+    let show = |joined: &Joined| {
+        let shown = Status::at(joined.client(), place)?;
         // SAFETY: the caller vouches for the room.
         unsafe { put_out("a status", status, shown) }?;
         Ok(Code::Ok)
     };
-    // SAFETY: the caller vouches for the room of the error.
-    unsafe { answer(error, show) }
+    // SAFETY: the caller vouches for the client and the room.
+    unsafe { by(client, error, show) }
 }
 
 #[unsafe(no_mangle)]
@@ -299,16 +312,14 @@ pub unsafe extern "C" fn krlc_tenure(
     hi: u64,
     tenure: *mut u64,
 ) -> u32 {
-    let find = || {
-        // SAFETY: the caller frees the client after this call.
-        let joined = unsafe { own(client) }?;
+    let find = |joined: &Joined| {
         let Some(found) = joined.client().tenure(range(lo, hi)?)? else { return Ok(Code::Miss) };
         // SAFETY: the caller vouches for the room.
         unsafe { put_out("a tenure", tenure, found.into()) }?;
         Ok(Code::Ok)
     };
-    // SAFETY: there is no room for an error.
-    unsafe { answer(ptr::null_mut(), find) }
+    // SAFETY: the caller vouches for the client, and there is no room for an error.
+    unsafe { by(client, ptr::null_mut(), find) }
 }
 
 #[unsafe(no_mangle)]
@@ -342,9 +353,7 @@ pub unsafe extern "C" fn krlc_get(
     timeout_ms: u64,
     error: *mut ErrorRoom,
 ) -> u32 {
-    let get = || {
-        // SAFETY: the caller frees the client after this call.
-        let joined = unsafe { own(client) }?;
+    let get = |joined: &Joined| {
         input::key(key)?;
         let found = joined.within(timeout_ms).get(key)?;
         let Some(value) = found else { return Ok(Code::Absent) };
@@ -352,8 +361,8 @@ pub unsafe extern "C" fn krlc_get(
         unsafe { put_out("a row", row, Row { key, value }) }?;
         Ok(Code::Ok)
     };
-    // SAFETY: the caller vouches for the room of the error.
-    unsafe { answer(error, get) }
+    // SAFETY: the caller vouches for the client and the room.
+    unsafe { by(client, error, get) }
 }
 
 #[unsafe(no_mangle)]
@@ -387,13 +396,12 @@ pub unsafe extern "C" fn krlc_forget(
     timeout_ms: u64,
     error: *mut ErrorRoom,
 ) -> u32 {
-    let forget = || {
-        // SAFETY: the caller frees the client after this call.
-        unsafe { own(client) }?.within(timeout_ms).forget(range(lo, hi)?)?;
+    let forget = |joined: &Joined| {
+        joined.within(timeout_ms).forget(range(lo, hi)?)?;
         Ok(Code::Ok)
     };
-    // SAFETY: the caller vouches for the room of the error.
-    unsafe { answer(error, forget) }
+    // SAFETY: the caller vouches for the client and the room.
+    unsafe { by(client, error, forget) }
 }
 
 /// Makes a write by a client.
@@ -407,13 +415,8 @@ unsafe fn write(
     error: *mut ErrorRoom,
     write: impl FnOnce(&krl::Client) -> Result<Outcome, Fault>,
 ) -> u32 {
-    let write = || {
-        // SAFETY: the caller frees the client after this call.
-        let client = unsafe { own(client) }?.within(timeout_ms);
-        Ok(write(&client)?.into())
-    };
-    // SAFETY: the caller vouches for the room of the error.
-    unsafe { answer(error, write) }
+    // SAFETY: the caller vouches for the client and the room.
+    unsafe { by(client, error, |joined| Ok(write(&joined.within(timeout_ms))?.into())) }
 }
 
 row_call!(krlc_insert, Client, insert);

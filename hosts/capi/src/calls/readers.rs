@@ -1,13 +1,12 @@
 //! The calls that read what is not kept: those of readers, which are no clients, and one of clients.
 use super::room::emptied;
-use super::{Client, Rows, own};
+use super::{Client, Rows, open, own};
 use crate::code::Code;
 use crate::fault::{ErrorRoom, Fault, answer};
 use crate::input::{self, range};
 use crate::options::Options;
 use krl::Row;
-use krl_ffi::{Handle, Kind, fork, options_at, put_out, quiet};
-use std::ptr;
+use krl_ffi::{Handle, Kind, put_out, quiet};
 use std::sync::{Mutex, MutexGuard, PoisonError};
 
 type Reader = Handle<Mutex<krl::Reader>>;
@@ -31,21 +30,9 @@ pub unsafe extern "C" fn krlc_reader_connect(
     reader: *mut *mut Reader,
     error: *mut ErrorRoom,
 ) -> u32 {
-    let connect = || {
-        // SAFETY: the caller vouches for the room, the options and their texts.
-        unsafe { put_out("a reader", reader, ptr::null_mut()) }?;
-        // SAFETY: as above.
-        let options = unsafe { options_at(options) }?;
-        // SAFETY: as above.
-        let wish = unsafe { options.wish() }?;
-        fork::watch()?;
-        let connected = READERS.open(Mutex::new(wish.reader()?))?;
-        // SAFETY: as above.
-        unsafe { put_out("a reader", reader, connected) }?;
-        Ok(Code::Ok)
-    };
-    // SAFETY: the caller vouches for the room of the error.
-    unsafe { answer(error, connect) }
+    let room = ("a reader", reader);
+    // SAFETY: the caller vouches for the room, the options and their texts.
+    unsafe { open(&READERS, room, options, error, |wish| Ok(Mutex::new(wish.reader()?))) }
 }
 
 #[unsafe(no_mangle)]

@@ -18,6 +18,9 @@ use std::mem::{self, MaybeUninit};
 use std::ops::Range;
 use std::sync::Arc;
 
+/// A call of the library that sends a row: its key, and the bytes of its value.
+type SendRow = unsafe extern "C" fn(*mut ffi::Handle, u64, *const u8, usize) -> ffi::Reply;
+
 /// What a scan of the cache found.
 #[derive(Clone, Copy, Debug, PartialEq, Eq)]
 pub(crate) enum Scan {
@@ -280,37 +283,25 @@ impl ClientHandle {
     /// Sends the write, and returns its number. Until it is answered, what the client knows of its
     /// key may be older than the server's row.
     pub fn write(&mut self, write: &Write) -> Result<u64, Code> {
-        self.call_and_lose(&keys_of(write), |handle| match write {
-            Write::Insert(Row { key, value }) => {
-                let bytes = value.as_bytes();
-                // SAFETY: as for any handle, and that many bytes of the value are there to be read.
-                unsafe { ffi::krl_client_insert(handle, *key, bytes.as_ptr(), bytes.len()) }
-            }
-            Write::Put(Row { key, value }) => {
-                let bytes = value.as_bytes();
-                // SAFETY: as for any handle, and that many bytes of the value are there to be read.
-                unsafe { ffi::krl_client_put(handle, *key, bytes.as_ptr(), bytes.len()) }
-            }
-            // SAFETY: `call` gives the handle to this call only.
-            Write::Delete(key) => unsafe { ffi::krl_client_delete(handle, *key) },
-        })?;
-        Ok(self.status()?.number)
+        self.send_write(write, ffi::krl_client_insert, ffi::krl_client_put)
     }
 
     /// Sends the write, which takes the lock that it needs if that is free, and returns its number.
     /// A delete takes nothing: it is sent as by [`ClientHandle::write`].
     pub fn write_with_lock(&mut self, write: &Write) -> Result<u64, Code> {
+        self.send_write(write, ffi::krl_client_take_insert, ffi::krl_client_take_put)
+    }
+
+    /// Sends the write by one of these calls, and returns its number.
+    fn send_write(&mut self, write: &Write, insert: SendRow, put: SendRow) -> Result<u64, Code> {
+        let send = |handle, by: SendRow, Row { key, value }: &Row| {
+            let bytes = value.as_bytes();
+            // SAFETY: as for any handle, and that many bytes of the value are there to be read.
+            unsafe { by(handle, *key, bytes.as_ptr(), bytes.len()) }
+        };
         self.call_and_lose(&keys_of(write), |handle| match write {
-            Write::Insert(Row { key, value }) => {
-                let bytes = value.as_bytes();
-                // SAFETY: as for any handle, and that many bytes of the value are there to be read.
-                unsafe { ffi::krl_client_take_insert(handle, *key, bytes.as_ptr(), bytes.len()) }
-            }
-            Write::Put(Row { key, value }) => {
-                let bytes = value.as_bytes();
-                // SAFETY: as for any handle, and that many bytes of the value are there to be read.
-                unsafe { ffi::krl_client_take_put(handle, *key, bytes.as_ptr(), bytes.len()) }
-            }
+            Write::Insert(row) => send(handle, insert, row),
+            Write::Put(row) => send(handle, put, row),
             // SAFETY: `call` gives the handle to this call only.
             Write::Delete(key) => unsafe { ffi::krl_client_delete(handle, *key) },
         })?;
