@@ -27,7 +27,7 @@ fn user(name: &str, password: &str) -> Credentials {
 
 #[test]
 fn a_cluster_that_wants_certificates_gets_one() {
-    let Some((authority, other)) = Authority::make().zip(Authority::make()) else { return };
+    let (authority, other) = (Authority::make(), Authority::make());
     let Some(cluster) = Cluster::start_secure(&authority) else { return };
     let address: EtcdAddress = cluster.address("secure");
     assert!(address.is_secure);

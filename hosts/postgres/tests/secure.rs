@@ -27,7 +27,7 @@ fn load(address: &PostgresAddress) -> Result<PostgresStore, String> {
 
 #[test]
 fn a_database_is_reached_by_tls_and_its_certificate_is_checked() {
-    let (Some(right), Some(other)) = (Authority::make(), Authority::make()) else { return };
+    let (right, other) = (Authority::make(), Authority::make());
     let Some(database) = secure(&right) else { return };
     let authority = |of: &Authority| format!("sslrootcert={}", of.certificate().display());
     let full = format!("sslmode=verify-full&{}", authority(&right));

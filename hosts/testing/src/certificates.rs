@@ -47,8 +47,8 @@ impl Authority {
         Authority { certificate: builder.build(), key }
     }
 
-    /// The files of a holder with these names of the kind URI, which believes this authority. They
-    /// are valid for this many days from now on.
+    /// The files of a holder with these names, which believes this authority. They are valid for this
+    /// many days from now on. A name is of the kind URI, or an address after `IP:`.
     pub fn certify(&self, folder: &Path, names: &[&str], days: i64) -> Files {
         self.certify_for(self, folder, names, days)
     }
@@ -68,7 +68,10 @@ impl Authority {
         if !names.is_empty() {
             let mut alternative = SubjectAlternativeName::new();
             for name in names {
-                alternative.uri(name);
+                match name.strip_prefix("IP:") {
+                    Some(address) => alternative.ip(address),
+                    None => alternative.uri(name),
+                };
             }
             let context = builder.x509v3_context(Some(&self.certificate), None);
             let extension = alternative.build(&context).unwrap();

@@ -8,6 +8,7 @@
     clippy::must_use_candidate,
     reason = "a test that can't continue panics"
 )]
+#[cfg(feature = "certificates")]
 pub mod authority;
 pub mod c_programs;
 #[cfg(feature = "certificates")]
