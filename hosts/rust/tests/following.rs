@@ -530,7 +530,7 @@ fn a_map_is_followed_at_any_home() {
 /// A call in a task has no thread that could wait for its deadline.
 #[test]
 fn a_task_gives_up_at_its_deadline_while_the_next_map_cannot_be_followed() {
-    let mut world = World::new("late", [10, 150]);
+    let mut world = World::new("given-up", [10, 150]);
     let client = Client::builder(world.map.clone(), 0, &world.folder).timeout(LONG).join().unwrap();
     let place = world.new_place();
     let next = world.map.split(50, place).unwrap();
