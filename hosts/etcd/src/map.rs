@@ -21,7 +21,8 @@ const PAUSE_WITHOUT_EVENT: Duration = Duration::from_millis(200);
 ///
 /// ```no_run
 /// # fn join() -> Result<(), Box<dyn std::error::Error>> {
-/// use krl::{Client, MapHome, ShardMap};
+/// use krl::store::MapHome;
+/// use krl::{Client, ShardMap};
 /// use krl_etcd::{Credentials, EtcdMap};
 ///
 /// let address = "etcd://10.0.0.1:2379/krl/map".parse()?;

@@ -25,7 +25,8 @@ const PAUSE_WITHOUT_CONNECTION: Duration = Duration::from_millis(200);
 ///
 /// ```no_run
 /// # fn join() -> Result<(), Box<dyn std::error::Error>> {
-/// use krl::{Client, MapHome, ShardMap};
+/// use krl::store::MapHome;
+/// use krl::{Client, ShardMap};
 /// use krl_postgres::PostgresMap;
 ///
 /// let address = "postgres://krl@localhost/orders".parse()?;
