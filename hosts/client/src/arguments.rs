@@ -33,8 +33,9 @@ and digits.
 
 The client's number: one process at a time is the client of a number, from 0
 to 63. Without --number the first free one from 63 down to 56 is taken, so
-eight commands run at once; but a get and a scan of up to 128 rows take none,
-so any number of them run at once. Lock files in $XDG_STATE_HOME/krl, or
+eight commands run at once; over TLS, the first free one for which the
+certificate may speak. But a get and a scan of up to 128 rows take none, so any
+number of them run at once. Lock files in $XDG_STATE_HOME/krl, or
 ~/.local/state/krl, show which are free for this user on this machine. If the
 server reports that another user or machine has a number, the next one is tried
 after a second: give --number, or KRL_NUMBER, to each, such as 40-47.
@@ -152,7 +153,8 @@ pub struct Options {
     #[arg(long, global = true, env = "KRL_TABLE", value_name = "NAME")]
     pub table: Option<TableName>,
     /// The client's number, 0 to 63; or a range, such as 40-47, or auto for all numbers: the
-    /// greatest free one is taken. By default 56-63, but none for a get or a short scan
+    /// greatest free one is taken. By default 56-63, or over TLS any for which the certificate may
+    /// speak, but none for a get or a short scan
     #[arg(long, global = true, env = "KRL_NUMBER", value_name = "NUMBER")]
     number: Option<Numbers>,
     /// The lock file, in place of one in the user's folder. It needs a --number that is a single
@@ -186,7 +188,9 @@ pub struct Options {
 impl Options {
     /// The numbers among which a client takes one.
     pub fn numbers(&self) -> Numbers {
-        self.number.clone().unwrap_or(Numbers::BY_DEFAULT)
+        let is_certified = self.tls_certificate.is_some();
+        let by_default = if is_certified { Numbers::ALL } else { Numbers::BY_DEFAULT };
+        self.number.clone().unwrap_or(by_default)
     }
 
     /// Whether the words name the client of the command, so that it is no reader.
@@ -347,11 +351,10 @@ impl ClientCommand {
 /// A range in one word or two.
 #[derive(Clone, Debug, Args)]
 pub struct RangeWords {
-    /// The whole range as LO..HI, or the least key
-    #[arg(value_name = "LO..HI|LO")]
+    /// The range, from LO on and below HI
+    #[arg(value_name = "LO..HI|LO HI")]
     first: String,
-    /// One past the greatest key
-    #[arg(value_name = "HI")]
+    #[arg(hide = true)]
     second: Option<String>,
 }
 
@@ -364,11 +367,10 @@ impl RangeWords {
 /// A range in one word or two, or all keys.
 #[derive(Clone, Debug, Args)]
 pub struct OptionalRangeWords {
-    /// The whole range as LO..HI, or the least key; all keys by default
-    #[arg(value_name = "LO..HI|LO")]
+    /// The range, from LO on and below HI; all keys by default
+    #[arg(value_name = "LO..HI|LO HI")]
     first: Option<String>,
-    /// One past the greatest key
-    #[arg(value_name = "HI")]
+    #[arg(hide = true)]
     second: Option<String>,
 }
 
@@ -382,11 +384,10 @@ impl OptionalRangeWords {
 /// A key, or a range in one word or two.
 #[derive(Clone, Debug, Args)]
 pub struct KeyOrRangeWords {
-    /// The key, or the least key of a range, or the whole range as LO..HI
-    #[arg(value_name = "KEY")]
+    /// The key; or a range, from LO on and below HI
+    #[arg(value_name = "KEY|LO..HI|LO HI")]
     first: String,
-    /// One past the greatest key of a range
-    #[arg(value_name = "HI")]
+    #[arg(hide = true)]
     second: Option<String>,
 }
 

@@ -55,6 +55,8 @@ pub struct Numbers(pub RangeInclusive<u8>);
 impl Numbers {
     /// Those of commands that are given none.
     pub const BY_DEFAULT: Numbers = Numbers(56..=63);
+    /// All numbers.
+    pub const ALL: Numbers = Numbers(0..=MAX_NUMBER);
 
     /// The number, if there is no choice.
     pub fn only(&self) -> Option<u8> {
@@ -67,7 +69,7 @@ impl FromStr for Numbers {
 
     fn from_str(word: &str) -> Result<Numbers, String> {
         if word == "auto" {
-            return Ok(Numbers(0..=MAX_NUMBER));
+            return Ok(Numbers::ALL);
         }
         let (least, greatest) = word.split_once('-').unwrap_or((word, word));
         let bounds = least.parse().ok().zip(greatest.parse().ok());

@@ -112,6 +112,15 @@ fn a_certificate_of_another_number_is_reported_in_a_sentence() {
 }
 
 #[test]
+fn the_number_is_that_of_the_certificate_if_none_is_given() {
+    let certified = Certified::new("tls-number");
+    let words = [&certified.four.words()[..], &["insert", "15", "one"]].concat();
+    assert_eq!(certified.world.prints(&words), "applied\n");
+    let status = certified.world.server.status();
+    assert_eq!(status.denied, 0, "{status}");
+}
+
+#[test]
 fn an_operator_has_no_right_to_rows() {
     let certified = Certified::new("tls-operator");
     for command in [["get", "15"].as_slice(), &["insert", "15", "a"]] {

@@ -5,7 +5,7 @@ use krl::error::Refusal;
 use krl::operate::evict;
 use krl::{
     Access, Address, Client, ErrorKind, Identity, JoinErrorKind, Listener, MemoryStore, Outcome,
-    Server, Shard, ShardMap, TlsConfig, Value,
+    Reader, Server, Servers, Shard, ShardMap, TlsConfig, Value,
 };
 use openssl::ssl::SslVersion;
 use openssl::ssl::{SslConnector, SslConnectorBuilder, SslFiletype, SslMethod, SslVerifyMode};
@@ -38,6 +38,33 @@ fn a_client_sends_its_own_numbers_and_no_other() {
     assert!(status.denied > 0 && !status.connected.contains(&4));
     assert!(status.taken < taken + 20, "only the ticks of client 3 were taken");
     assert_eq!(client.read(0..100).unwrap().len(), 1);
+}
+
+#[test]
+fn of_several_numbers_one_of_the_certificate_is_taken() {
+    let setup = Setup::new("several");
+    let server = serve(&setup);
+    let (three, of_none) = (setup.config(&["krl:client:3"]), setup.config(&["krl:reader"]));
+    let builder = |shown: &TlsConfig| {
+        Client::builder_with_numbers(servers(&server, shown), 0..64, &setup.folder)
+    };
+    assert_eq!(builder(&three).join().unwrap().number(), 3);
+    let error = builder(&of_none).join().unwrap_err();
+    assert_eq!(error.number, Some(0), "{error}");
+}
+
+#[test]
+fn a_plain_client_of_a_port_of_tls_is_answered_that_it_is_one() {
+    let setup = Setup::new("plain-client");
+    let server = serve(&setup);
+    let plain = server.address().to_string().replace("tls:", "");
+    let plain = || plain.parse::<Servers>().unwrap();
+    let begun = Instant::now();
+    let error = Client::join(plain(), 3, setup.lock(3)).unwrap_err();
+    assert!(error.to_string().contains("takes connections over TLS only"), "{error}");
+    let error = Reader::new(plain()).connect(..).unwrap_err();
+    assert!(error.to_string().contains("takes connections over TLS only"), "{error}");
+    assert!(begun.elapsed() < AT_ONCE, "{:?}", begun.elapsed());
 }
 
 #[test]

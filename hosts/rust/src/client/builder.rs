@@ -10,7 +10,6 @@ use crate::client::table::Table;
 use crate::model::client_number::ClientNumber;
 use crate::model::row::END;
 use crate::net::servers::Servers;
-#[cfg(feature = "tls")]
 use crate::net::tls::TlsConfig;
 use crate::shards::map::ShardMap;
 use std::ops::Range;
@@ -47,6 +46,8 @@ impl ClientBuilder {
     /// What the client shows to its servers if they listen over TLS, and whom it trusts. It is
     /// read again at each connect: after [`TlsConfig::reload`], the next connection shows what the
     /// files have then.
+    ///
+    /// A builder for several numbers takes one for which the certificate may speak, if there is one.
     ///
     /// [`TlsConfig::reload`]: crate::TlsConfig::reload
     #[cfg(feature = "tls")]
@@ -93,7 +94,8 @@ impl ClientBuilder {
     /// Those of [`Client::join`], with the first shard that was not joined. Of a builder for
     /// several numbers, `LockFile` if other processes have the files of all of them. `Incomplete`
     /// if there are no numbers, or no shard has any of the keys.
-    pub fn join(self) -> Result<Client, JoinError> {
+    pub fn join(mut self) -> Result<Client, JoinError> {
+        self.keep_certified_numbers();
         let join = |number, waits| match &self.place {
             Place::Server(servers) => self.join_server(servers.clone(), number, waits),
             Place::Map(map) => self.join_shards(map, number, waits),
@@ -104,6 +106,14 @@ impl ClientBuilder {
                 let joined = numbers::join_first(numbers, self.waits, join);
                 joined.unwrap_or(Err(JoinErrorKind::Incomplete("a number").into()))
             }
+        }
+    }
+
+    /// Leaves out the numbers for which the certificate may not speak, unless it may for none.
+    fn keep_certified_numbers(&mut self) {
+        let Some(own) = self.place.tls().and_then(TlsConfig::identity) else { return };
+        if self.numbers.iter().any(|number| own.is_client(*number)) {
+            self.numbers.retain(|number| own.is_client(*number));
         }
     }
 

@@ -1,6 +1,5 @@
 //! Where the table of a client is.
 use crate::net::servers::Servers;
-#[cfg(feature = "tls")]
 use crate::net::tls::TlsConfig;
 use crate::shards::map::ShardMap;
 
@@ -26,6 +25,14 @@ impl Place {
     /// Whether it is a map that a next one may replace.
     pub(crate) fn has_version(&self) -> bool {
         matches!(self, Place::Map(map) if map.version().is_some())
+    }
+
+    /// What its servers are shown.
+    pub(crate) fn tls(&self) -> Option<&TlsConfig> {
+        match self {
+            Place::Server(servers) => servers.tls(),
+            Place::Map(map) => map.shards().first()?.servers.tls(),
+        }
     }
 
     /// The same place, whose servers are shown this if they listen over TLS.

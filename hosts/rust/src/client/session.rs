@@ -13,7 +13,7 @@ use crate::model::history::Seen;
 use crate::model::refusal::Refusal;
 use crate::model::shard_fence::Fence;
 use crate::net::address::Address;
-use crate::net::connect_fault::{NoServer, NothingListens, Rejection, Rejections};
+use crate::net::connect_fault::{self, NoServer, NothingListens, Rejection, Rejections};
 use crate::net::servers::Servers;
 use crate::proved::client_handle::ClientHandle;
 use crate::wire::frames::Frames;
@@ -267,16 +267,16 @@ impl Session {
                 self.receive_message(Message::read(frame))?;
             }
         }
-        if frames.is_broken() { Err(self.no_frame()) } else { Ok(()) }
+        if frames.is_broken() { Err(self.no_frame(frames)) } else { Ok(()) }
     }
 
     /// Why the connection ends when what comes next is no frame.
-    fn no_frame(&self) -> io::Error {
+    fn no_frame(&self, came: &Frames) -> io::Error {
         match &self.connection {
             Some(Connection { received: Received { frame: true, .. }, .. }) => {
                 bad_message(Code::BadMessage)
             }
-            _ => NoServer(self.address().clone()).into(),
+            _ => connect_fault::no_frame(self.address(), came),
         }
     }
 

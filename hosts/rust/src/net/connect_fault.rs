@@ -3,6 +3,7 @@
 use crate::model::refusal::Refusal;
 use crate::model::shard_fence::OtherShard;
 use crate::net::address::Address;
+use crate::wire::frames::Frames;
 use std::fmt;
 use std::io::{self, ErrorKind};
 
@@ -24,6 +25,18 @@ pub(crate) enum Rejection {
 /// What answers at this address is another program: its first bytes are no frame.
 #[derive(Clone, Debug, PartialEq, Eq)]
 pub(crate) struct NoServer(pub Address);
+
+/// Why a connection ends whose first bytes are no frame.
+pub(crate) fn no_frame(address: &Address, came: &Frames) -> io::Error {
+    if came.begin_an_alert_of_tls() {
+        let why = format!(
+            "{address} takes connections over TLS only: give the address with tls: before it, and \
+             a certificate"
+        );
+        return Rejection::NotTaken(why).into();
+    }
+    NoServer(address.clone()).into()
+}
 
 /// Nothing listens at the address, by this error of the system: it refused the connection, or there
 /// is no such socket.

@@ -11,6 +11,12 @@ pub(crate) const NEEDED: &str =
 #[derive(Clone, Debug, PartialEq, Eq)]
 pub(crate) enum TlsConfig {}
 
+impl TlsConfig {
+    pub fn identity(&self) -> Option<Identity> {
+        match *self {}
+    }
+}
+
 /// Which side of a connection this one is.
 #[derive(Clone, Copy, Debug, PartialEq, Eq)]
 pub(crate) enum Side {

@@ -11,14 +11,14 @@ pub use config::{TlsConfig, TlsError};
 
 use crate::identity::{Identity, Role, TableName};
 use crate::net::connect_fault::Rejection;
-use crate::wire::frames::{Frames, GULP};
+use crate::wire::frames::{Frames, GULP, TLS_ALERT};
 use openssl::error::ErrorStack;
 use openssl::ssl::{Error, ErrorCode, Ssl, SslRef, SslStream, SslVerifyMode};
 use openssl::x509::{X509Ref, X509StoreContextRef, X509VerifyResult};
 use pipe::Pipe;
 use std::ffi::c_ulong;
 use std::fmt;
-use std::io::{self, ErrorKind, Read};
+use std::io::{self, ErrorKind, Read, Write};
 use std::sync::{Arc, OnceLock};
 
 /// What one needs at an address of TLS.
@@ -32,6 +32,14 @@ const RECORD: usize = 1 << 14;
 
 /// Which bits of a code of OpenSSL are its reason, as far as alerts need them.
 const REASON: c_ulong = 0xfff;
+
+/// The kind of the records of a handshake, with which each connection of TLS begins.
+const HANDSHAKE: u8 = 22;
+
+/// Alerts, each with its level before it: the record before was not expected, and no other one
+/// follows.
+const UNEXPECTED_MESSAGE: [u8; 2] = [2, 10];
+const CLOSE_NOTIFY: [u8; 2] = [1, 0];
 
 /// The reason of an alert is its number after this one.
 const ALERTS: c_ulong = 1000;
@@ -258,11 +266,25 @@ impl TlsSession {
         if self.peer.is_some() {
             return Ok(());
         }
+        if self.shaken == 0 && sealed.first().is_some_and(|kind| *kind != HANDSHAKE) {
+            return self.refuse_what_is_plain();
+        }
         self.shaken += sealed.len();
         if self.shaken > LONGEST_HANDSHAKE {
             return Err(io::Error::new(ErrorKind::InvalidData, "the handshake does not end"));
         }
         self.go_on()
+    }
+
+    /// The other end does not speak TLS. OpenSSL answers nothing then: this side does, so that a peer
+    /// knows it.
+    fn refuse_what_is_plain(&mut self) -> io::Result<()> {
+        for [level, what] in [UNEXPECTED_MESSAGE, CLOSE_NOTIFY] {
+            self.stream.get_mut().write_all(&TLS_ALERT)?;
+            self.stream.get_mut().write_all(&[0, 2, level, what])?;
+        }
+        let why = "the other end does not speak TLS: does it have the address without tls:?";
+        Err(io::Error::new(ErrorKind::InvalidData, why))
     }
 
     /// Puts bytes after those that are to leave.

@@ -35,6 +35,9 @@ pub(crate) const EMPTY: [u8; PREFIX] = [0; PREFIX];
 /// The bytes of a length.
 pub(super) const PREFIX: usize = 8;
 
+/// How an alert of TLS begins: a record of its kind, and of the version that all records name.
+pub(crate) const TLS_ALERT: [u8; 3] = [21, 3, 3];
+
 /// How much is read at once.
 pub(crate) const GULP: usize = 1 << 14;
 
@@ -116,6 +119,11 @@ impl Frames {
     /// Whether the next frame promises more than a message has.
     pub fn is_broken(&self) -> bool {
         self.whole().is_err()
+    }
+
+    /// Whether what comes next is no frame, but what a server of TLS answers to anything else.
+    pub fn begin_an_alert_of_tls(&self) -> bool {
+        self.bytes[self.taken..self.filled].starts_with(&TLS_ALERT)
     }
 
     /// Whether the next frame has not come whole, and may still do so.

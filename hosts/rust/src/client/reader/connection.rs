@@ -4,7 +4,7 @@ use crate::model::refusal::Refusal;
 use crate::model::shard_fence::Fence;
 use crate::net::address::Address;
 use crate::net::carrier::Carrier;
-use crate::net::connect_fault::{NoServer, Rejection};
+use crate::net::connect_fault::{self, Rejection};
 use crate::net::outbox::Outbox;
 use crate::net::poller::{IoInterest, Poller, Ready};
 use crate::net::readiness::Unread;
@@ -153,7 +153,7 @@ impl Connection {
             }
             Ok(None) => Ok(None),
             Err(_) if self.has_received => Err(ErrorKind::InvalidData.into()),
-            Err(_) => Err(NoServer(self.address.clone()).into()),
+            Err(_) => Err(connect_fault::no_frame(&self.address, &self.frames)),
         }
     }
 

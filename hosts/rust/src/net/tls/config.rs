@@ -1,6 +1,6 @@
 //! What one side of a connection shows, and whom it trusts.
 use super::certificate::{Certificate, Unfit};
-use crate::identity::TableName;
+use crate::identity::{Identity, TableName};
 use openssl::error::ErrorStack;
 use openssl::pkey::{PKey, Private};
 use openssl::ssl::{
@@ -142,6 +142,11 @@ impl TlsConfig {
     #[must_use]
     pub fn certificate(&self) -> Certificate {
         self.loaded().own.clone()
+    }
+
+    /// What the certificate that is shown now grants at the table, if it grants anything.
+    pub(crate) fn identity(&self) -> Option<Identity> {
+        Identity::of_names(self.certificate().names.iter().map(String::as_str), self.table())
     }
 
     fn loaded(&self) -> MutexGuard<'_, Loaded> {
