@@ -3,18 +3,15 @@ use Rattle.std.proofs.Common.{◌≡◌, ℕ, zero, suc, ◌+◌, ◌≤◌, Boo
 use Rattle.std.specs.Prelude.{take, drop}
 use Rattle.std.proofs.lemmas.List.{append-nil}
 use Rattle.krl_modes.specs.declared.limits.TheConstants.{STANDARD_REACH, STANDARD_ROOM}
-use Rattle.krl_steps.specs.declared.applied_write.AppliedWrite.{AppliedWrite}
 use Rattle.krl_durable.specs.declared.limits.Limits.{Limits}
 use Rattle.krl_durable.specs.Limits.{Fits, sized}
 use Rattle.krl_server.specs.Steps.{start}
-use Rattle.krl_world.specs.States.{ServerPlace, Down, State}
+use Rattle.krl_world.specs.States.{Down, State}
 use Rattle.krl_world.proofs.Examples.Running.{opens}
 use Rattle.krl_host_laws.specs.Hosts.{Started, Host, HostWorld, stepped, notes_of, disk_of, kept}
 use Rattle.krl_host_laws.specs.Hosts as host
 use Rattle.krl_host_laws.proofs.Promised.{reached_shown}
 use Rattle.krl_host_laws.proofs.Ahead.{w11, r11, h4, absent, present}
-use Rattle.krl_server.specs.Cases.{case_of}
-use Rattle.krl_server.specs.Changes.{change_of}
 use Rattle.krl_fenced_hosts.specs.Processes.{Process, StoreWorld, set_process, with_host}
 use Rattle.krl_fenced_hosts.specs.Processes as store
 use Rattle.krl_fenced_hosts.specs.OneHost.{process_of, store_of, HostsAreProcesses, Overtakes}
