@@ -6,6 +6,7 @@
 #     make deb                    makes a package for Debian of the same in OUT, and one of the extension for PostgreSQL
 #     make wheel                  makes a wheel of the client for Python in OUT
 #     make release VERSION=0.1.0  makes all that goes next to a tag in OUT: docs/maintainers/RELEASE.md
+#     make playground             makes the simulator of docs/playground again, which is committed
 PREFIX = /usr/local
 TARGET = $(CURDIR)/hosts/target
 LIBRARY = $(TARGET)/library
@@ -43,4 +44,7 @@ wheel: all
 release:
 	hosts/packaging/release $(VERSION) $(OUT)
 
-.PHONY: all deb dist install release wheel
+playground:
+	hosts/simulator/wasm/make docs/playground/krl_simulator.js
+
+.PHONY: all deb dist install playground release wheel
