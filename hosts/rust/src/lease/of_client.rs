@@ -20,7 +20,9 @@ pub(crate) enum Piggyback {
     Alone,
 }
 
-/// The end of a client's lease, for the threads that read its cache. They take no lock for it.
+/// The end of a client's lease, for the threads that read its cache. They take no lock for it, and need
+/// no order: it only rises, and the end that a thread finds inside the gate is no older than what it
+/// finds of the cache (`tests/weak_memory`).
 #[derive(Debug)]
 pub(crate) struct End(AtomicU64);
 

@@ -86,8 +86,8 @@ impl<T> Owner<T> {
         gate.wait_for_readers();
         // SAFETY: no other change is at work, and no borrow of `get` is there, since this call has
         // the one owner by `&mut`. No reader is inside and none comes in before `_shut` is dropped:
-        // by the order of the `SeqCst` operations this call has seen the count of each reader that
-        // has found the gate open, and it was 0 again.
+        // this call has seen the count of each reader that has found the gate open, and it was 0
+        // again. See `try_enter`.
         change(unsafe { &mut *gate.value.get() })
     }
 }
@@ -135,6 +135,13 @@ impl<T> Gate<T> {
     }
 
     /// Counts first and looks then. `shut` and `wait_for_readers` shut first and look then.
+    ///
+    /// All threads see the `SeqCst` operations in one order, and these four are `SeqCst`: whichever
+    /// of the count and the shutting comes first, the look of the other side comes after it and
+    /// finds it. No order but `SeqCst` promises anything of a store before a load of another place:
+    /// by any other one, both sides may look before the other sees what they have stored. So it is
+    /// on x86-64 if the store is `Release`, and on AArch64 if a look is `Acquire`, which may be the
+    /// instruction `LDAPR`. `tests/weak_memory` tries each weaker order.
     fn try_enter(&self) -> Option<Counted<'_>> {
         let inside = Counted::new(&self.inside[place()].0);
         if self.is_shut.0.load(Ordering::SeqCst) { None } else { Some(inside) }
@@ -177,14 +184,14 @@ impl Counted<'_> {
 
 impl Drop for Counted<'_> {
     fn drop(&mut self) {
-        // A thread that reads this count has seen what was done before.
+        // The owner that finds this count comes after what was read inside.
         self.0.fetch_sub(1, Ordering::Release);
     }
 }
 
 impl Drop for Shut<'_> {
     fn drop(&mut self) {
-        // A thread that finds the gate open has seen the change.
+        // A reader that finds the gate open comes after the change.
         self.0.store(false, Ordering::Release);
     }
 }
