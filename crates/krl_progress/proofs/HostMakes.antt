@@ -1,6 +1,6 @@
 -- From each world of hosts that is reached, in which the host runs, good rounds can be made.
 use Rattle.krl_progress.proofs.Names.{◌≡◌, ℕ, zero, suc, ◌+◌, ◌≤◌, ◌∙◌, ◌⊎◌, inl, inr, ⊎_elim, false, Option, Some, None, List, [], ◌∷◌, ◌++◌, length, slice_get, refl, sym, ap, subst, arith, same_Some, append-nil, all_follow}
-use Rattle.krl_progress.proofs.Names.{In, in_both, ToServer, ToClient, Client, Pieces, Describes, Message, Step, Answer, ClientPlace, State, client_of, with_client, from_clients, from_server, message_at, ClientReads, Takes, IsReachable, case_of}
+use Rattle.krl_progress.proofs.Names.{In, in_both, ToServer, ToClient, Client, Pieces, Describes, Message, AppliedWrite, Step, Answer, ClientPlace, Up, State, client_of, with_client, from_clients, from_server, message_at, ClientReads, Takes, IsReachable, case_of}
 use Rattle.std.specs.Prelude.{take, drop}
 use Rattle.krl_messages.proofs.Members.{in_left, in_right}
 use Rattle.krl_client.specs.Messages as receiver
@@ -14,17 +14,18 @@ use Rattle.krl_world.specs.Steps.{refusal_of}
 use Rattle.krl_world.proofs.Progress.CanGoOn.{can_go_on}
 use Rattle.krl_world.proofs.Refinement.Taken.{at_in}
 use Rattle.krl_host_laws.specs.Hosts.{Said, said_after, Host, HostWorld, Moves, IsReached, moved, acts, judges, keeps, releases, notes_of, stepped, kept}
-use Rattle.krl_host_laws.proofs.Clients.{Has}
+use Rattle.krl_host_laws.proofs.Clients.{Has, beside}
 use Rattle.krl_host_laws.proofs.Shown.{in_host}
 use Rattle.krl_host_laws.proofs.Promised.{reached_shown, batches_are_worlds}
 use Rattle.krl_progress.specs.Rounds.{loses_a_node}
-use Rattle.krl_progress.specs.HostRounds.{unsent_by, under_way, DoesAs, HostRuns, ends, moves, HostRounds, anything}
+use Rattle.krl_progress.specs.HostRounds.{unsent_by, under_way, DoesAs, HostRuns, ends, moves, HostRounds, GoodRounds, anything}
 use Rattle.krl_progress.specs.HostLaws.{HostRoundsCanBeMade}
 use Rattle.krl_progress.proofs.Moves as world
 use Rattle.krl_progress.proofs.Moves.{get_left, client_goes_on}
-use Rattle.krl_progress.proofs.MakesRounds.{Good, ticks, delivers, good_allowed, client_near, round_steps, all_good, round_of}
+use Rattle.krl_progress.proofs.MakesRounds.{Quiet, Good, good_quiet, ticks, delivers, good_allowed, client_near, round_steps, all_good, round_of}
 use Rattle.krl_progress.proofs.HostActs.{nth_of, delivers_one, message_left}
-use Rattle.krl_progress.proofs.HostProgress.{in_waiting}
+use Rattle.krl_progress.proofs.HostProgress.{in_waiting, begins, nothing_else}
+use Rattle.krl_progress.proofs.HostShows.{Seen, stays_through}
 
 -- Messages
 
@@ -255,18 +256,27 @@ near_first w h r e = record {
   all = λ y i. ⊎_elim (λ (a : In y w.world.sent). inl a) (λ (b : In y (unsent_by w.host)). inr (in_waiting h.unsent y (subst (λ o. In y (unsent_by o)) e b))) (in_both w.world.sent (unsent_by w.host) y i);
 }
 
-made_rounds : (n from : ℕ) (w : HostWorld) (made : List Message) → Near w made → (v : HostWorld) × (all : List Message) × HostRounds anything n from w made v all
-made_rounds zero from w made near = (w, made, (refl, refl))
-made_rounds (suc n) from w made near =
-    let here : State = record w.world { sent = made } in
-    let s = settle w made near in
-    let r = takes_all (round_steps here) s.after made s.near (λ x i. can s x (all_good here x i)) in
-    let rest = made_rounds n (length made) r.after r.all r.near in
-    (rest.0, rest.1, (round_steps here, r.after, r.all, round_of here from (λ c k e. near_number w c k near.reached e), s.run r.after r.all (round_steps here) r.run, rest.2))
-  where
-    can : (s : Settled w made) (x : Step) → Good (record w.world { sent = made }) x → CanTake s.after made x
-    can s _ (ticks c k e) = ticking c k (ap (λ (p : ℕ → ClientPlace). (p c).client) s.places ∙ e)
-    can s _ (delivers j y e) = handing j y e (s.left y (at_in made j y e))
+can : (w : HostWorld) (made : List Message) (s : Settled w made) (x : Step) → Good (record w.world { sent = made }) x → CanTake s.after made x
+can w made s _ (ticks c k e) = ticking c k (ap (λ (p : ℕ → ClientPlace). (p c).client) s.places ∙ e)
+can w made s _ (delivers j y e) = handing j y e (s.left y (at_in made j y e))
+
+-- in which something stays so
+module _ (Q Inv : State → Type 0) (goes : (u v : State) (s : Step) (answer : Answer) → Quiet s → Inv u → Takes u s answer v → Inv v) (says : (u : State) → Inv u → Q u) (same : (u : State) (sent : List Message) (writes : List AppliedWrite) → Q u → Q (record u { sent = sent; writes = writes })) where
+  made_rounds : (P S : List Message) (has : Has P S) (n from : ℕ) (w : HostWorld) (made : List Message) → Near w made → (h : Host) (new : List Message) (writes : List AppliedWrite) → Seen P S has w made h new → Inv (beside w.world (Up h.memory) (S ++ new) writes) → (v : HostWorld) × (all : List Message) × HostRounds Q n from w made v all
+  made_rounds P S has zero from w made near h new writes seen i = (w, made, (refl, refl))
+  made_rounds P S has (suc n) from w made near h new writes seen i =
+      let here : State = record w.world { sent = made } in
+      let s = settle w made near in
+      let r = takes_all (round_steps here) s.after made s.near (λ x k. can w made s x (all_good here x k)) in
+      let x = stays_through P S has Q Inv goes says same w r.after made r.all (round_steps here) (s.run r.after r.all (round_steps here) r.run) near.reached (λ y k. good_quiet here y (all_good here y k)) h new writes seen i in
+      let rest = made_rounds P S has n (length made) r.after r.all r.near x.host x.new x.writes x.seen x.stays in
+      (rest.0, rest.1, (round_steps here, r.after, r.all, round_of here from (λ c k e. near_number w c k near.reached e), x.run, rest.2))
+
+  pub rounds_made : (w : HostWorld) (h : Host) (n : ℕ) → IsReached w → w.host ≡ Some h → ((sent : List Message) (writes : List AppliedWrite) → IsReachable (beside w.world (Up h.memory) sent writes) → Inv (beside w.world (Up h.memory) sent writes)) → (v : HostWorld) × GoodRounds Q n w v
+  rounds_made w h n r e first =
+      let b = begins w h r e in
+      let x = made_rounds (under_way w) b.sent b.has n (length (under_way w)) w (under_way w) (near_first w h r e) h [] b.writes b.seen (first (b.sent ++ []) b.writes b.reachable) in
+      (x.0, (x.1, x.2))
 
 pub rounds_can_be_made : HostRoundsCanBeMade
-rounds_can_be_made w h n r e = let x = made_rounds n (length (under_way w)) w (under_way w) (near_first w h r e) in (x.0, (x.1, x.2))
+rounds_can_be_made w h n r e = rounds_made anything anything (λ u v s answer quiet i t. tt) (λ u i. tt) nothing_else w h n r e (λ sent writes reach. tt)

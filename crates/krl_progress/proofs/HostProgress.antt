@@ -26,33 +26,37 @@ in_waiting (x ∷ xs) m (inr i) = let r = in_waiting xs m i in (r.0, inr r.1, r.
 
 -- The world with the server in memory
 
-record Begins (w : HostWorld) (h : Host) : Type 0 where
+pub record Begins (w : HostWorld) (h : Host) : Type 0 where
   pub sent : List Message
-  pub left : Has w.world.sent sent
-  pub waits : (x : Said) → In x h.unsent → In (message.ToClient x.message) sent
+  pub has : Has (under_way w) sent
+  pub seen : Seen (under_way w) sent has w (under_way w) h []
   pub writes : List AppliedWrite
-  pub reachable : IsReachable (beside w.world (Up h.memory) sent writes)
+  pub reachable : IsReachable (beside w.world (Up h.memory) (sent ++ []) writes)
 
-begins : (w : HostWorld) (h : Host) → IsReached w → w.host ≡ Some h → Begins w h
+pub begins : (w : HostWorld) (h : Host) → IsReached w → w.host ≡ Some h → Begins w h
 begins w h r e =
     let runs = in_host w h e (reached_shown w r) in
     let a = runs.upto (length h.unkept) (omega arith) in
     let writes = w.world.writes ++ writes_noted (take (length h.unkept) h.unkept) (disk_of w.world) in
+    let whole = sym (append-nil a.sent) in
+    let waits : (x : Said) → In x h.unsent → In (message.ToClient x.message) a.sent = λ x i. a.tells x i (runs.bound x i) in
     record {
       sent = a.sent;
-      left = a.all;
-      waits = λ x i. a.tells x i (runs.bound x i);
+      has = λ m i. ⊎_elim (λ (x : In m w.world.sent). a.all m x)
+          (λ (x : In m (unsent_by w.host)). let y = in_waiting h.unsent m (subst (λ o. In m (unsent_by o)) e x) in subst (λ k. In k a.sent) (sym y.2) (waits y.0 y.1))
+          (in_both w.world.sent (unsent_by w.host) m i);
+      seen = record {
+        up = e;
+        made_is = sym (append-nil (under_way w));
+        left = λ m i. subst (λ ms. In m ms) whole (a.all m i);
+        waits = λ x i. subst (λ ms. In (message.ToClient x.message) ms) whole (waits x i);
+      };
       writes = writes;
-      reachable = subst (λ n. IsReachable (beside w.world n a.sent writes)) (a.last refl) a.reachable;
+      reachable = subst (λ ms. IsReachable (beside w.world (Up h.memory) ms writes)) whole (subst (λ n. IsReachable (beside w.world n a.sent writes)) (a.last refl) a.reachable);
     }
 
-all_under_way : (w : HostWorld) (h : Host) → w.host ≡ Some h → (b : Begins w h) → Has (under_way w) b.sent
-all_under_way w h e b m i = ⊎_elim (λ (x : In m w.world.sent). b.left m x)
-    (λ (x : In m (unsent_by w.host)). let y = in_waiting h.unsent m (subst (λ o. In m (unsent_by o)) e x) in subst (λ k. In k b.sent) (sym y.2) (b.waits y.0 y.1))
-    (in_both w.world.sent (unsent_by w.host) m i)
-
 -- good rounds of the host, as rounds of the world
-record Carried (Q : State → Type 0) (n : ℕ) (w v : HostWorld) (h : Host) : Type 0 where
+pub record Carried (Q : State → Type 0) (n : ℕ) (w v : HostWorld) (h : Host) : Type 0 where
   pub sent : List Message
   pub writes : List AppliedWrite
   pub reachable : IsReachable (beside w.world (Up h.memory) sent writes)
@@ -62,23 +66,16 @@ record Carried (Q : State → Type 0) (n : ℕ) (w v : HostWorld) (h : Host) : T
   pub writes_then : List AppliedWrite
   pub rounds : RoundsWhile Q n (length sent) (beside w.world (Up h.memory) sent writes) (beside v.world (Up host.memory) sent_then writes_then)
 
-carried : (Q : State → Type 0) → ((u : State) (sent : List Message) (writes : List AppliedWrite) → Q u → Q (record u { sent = sent; writes = writes })) → (n : ℕ) (w v : HostWorld) (h : Host) → IsReached w → w.host ≡ Some h → GoodRounds Q n w v → Carried Q n w v h
+pub carried : (Q : State → Type 0) → ((u : State) (sent : List Message) (writes : List AppliedWrite) → Q u → Q (record u { sent = sent; writes = writes })) → (n : ℕ) (w v : HostWorld) (h : Host) → IsReached w → w.host ≡ Some h → GoodRounds Q n w v → Carried Q n w v h
 carried Q same n w v h r e g =
     let b = begins w h r e in
     let p = under_way w in
-    let has = all_under_way w h e b in
-    let seen : Seen p b.sent has w p h [] = record {
-      up = e;
-      made_is = sym (append-nil p);
-      left = λ m i. subst (λ ms. In m ms) (sym (append-nil b.sent)) (b.left m i);
-      waits = λ x i. subst (λ ms. In (message.ToClient x.message) ms) (sym (append-nil b.sent)) (b.waits x i);
-    } in
     let size = ap length (append-nil b.sent) in
-    let x = rounded p b.sent has Q same n (length p) (length (b.sent ++ [])) w v p g.0 g.1 r h [] b.writes seen (omega arith) (omega (arith, size)) in
+    let x = rounded p b.sent b.has Q same n (length p) (length (b.sent ++ [])) w v p g.0 g.1 r h [] b.writes b.seen (omega arith) (omega (arith, size)) in
     record {
       sent = b.sent ++ [];
       writes = b.writes;
-      reachable = subst (λ ms. IsReachable (beside w.world (Up h.memory) ms b.writes)) (sym (append-nil b.sent)) b.reachable;
+      reachable = b.reachable;
       host = x.host;
       up = x.seen.up;
       sent_then = b.sent ++ x.new;
@@ -88,11 +85,11 @@ carried Q same n w v h r e g =
 
 -- The host that runs
 
-record RunsAt (w : HostWorld) : Type 0 where
+pub record RunsAt (w : HostWorld) : Type 0 where
   pub host : Host
   pub up : w.host ≡ Some host
 
-runs_at : (w : HostWorld) (P : ServerPlace → Type 0) → IsReached w → P (in_memory w.host w.world.server) → (P (Down (disk_of w.world)) → ⊥) → RunsAt w
+pub runs_at : (w : HostWorld) (P : ServerPlace → Type 0) → IsReached w → P (in_memory w.host w.world.server) → (P (Down (disk_of w.world)) → ⊥) → RunsAt w
 runs_at w P r p never = by_host w.host refl p
   where
     by_host : (o : Option Host) → w.host ≡ o → P (in_memory o w.world.server) → RunsAt w
@@ -100,15 +97,15 @@ runs_at w P r p never = by_host w.host refl p
     by_host (Some h) e q = record { host = h; up = e }
 
 -- what holds of its server in memory
-in_mind : (w : HostWorld) (h : Host) (P : ServerPlace → Type 0) → w.host ≡ Some h → P (in_memory w.host w.world.server) → P (Up h.memory)
+pub in_mind : (w : HostWorld) (h : Host) (P : ServerPlace → Type 0) → w.host ≡ Some h → P (in_memory w.host w.world.server) → P (Up h.memory)
 in_mind w h P e p = subst (λ o. P (in_memory o w.world.server)) e p
 
-out_of_mind : (w : HostWorld) (h : Host) (P : ServerPlace → Type 0) → w.host ≡ Some h → P (Up h.memory) → P (in_memory w.host w.world.server)
+pub out_of_mind : (w : HostWorld) (h : Host) (P : ServerPlace → Type 0) → w.host ≡ Some h → P (Up h.memory) → P (in_memory w.host w.world.server)
 out_of_mind w h P e p = subst (λ o. P (in_memory o w.world.server)) (sym e) p
 
 -- The laws
 
-nothing_else : (u : State) (sent : List Message) (writes : List AppliedWrite) → anything u → anything (record u { sent = sent; writes = writes })
+pub nothing_else : (u : State) (sent : List Message) (writes : List AppliedWrite) → anything u → anything (record u { sent = sent; writes = writes })
 nothing_else u sent writes q = tt
 
 pub recovery_ends : HostRecoveryEndsIn 5
@@ -137,7 +134,7 @@ writes_outlast_recoveries w v d k l r missing runs g there room more number =
     outlasting.writes_outlast_recoveries a b d k l c.reachable (in_mind w at.host (MissingRun (ahead w)) at.up missing) runs (forget anything 11 (length c.sent) a b c.rounds) there room more number
 
 -- what keeps a world undisturbed is its server and its clients
-undisturbed : (reqs writes : ℕ → ℕ) (u : State) (sent : List Message) (written : List AppliedWrite) → IsUndisturbed reqs writes u → IsUndisturbed reqs writes (record u { sent = sent; writes = written })
+pub undisturbed : (reqs writes : ℕ → ℕ) (u : State) (sent : List Message) (written : List AppliedWrite) → IsUndisturbed reqs writes u → IsUndisturbed reqs writes (record u { sent = sent; writes = written })
 undisturbed reqs writes u sent written q = record { server = q.server; up = q.up; serves = q.serves; here = q.here; undisturbed = q.undisturbed }
 
 pub locks_are_answered : HostAnswersLocksIn 1161

@@ -16,7 +16,8 @@ use Rattle.krl_host_laws.proofs.Shown.{said_in, in_told}
 use Rattle.krl_host_laws.proofs.Promised.{reached_shown}
 use Rattle.krl_progress.specs.Rounds.{loses_a_node, IsRound}
 use Rattle.krl_progress.specs.Blocks.{Throughout, RoundsWhile}
-use Rattle.krl_progress.specs.HostRounds.{in_memory, ahead, Acts, DoesAs, HostRuns, ends, moves, HostRounds}
+use Rattle.krl_progress.specs.HostRounds.{in_memory, ahead, Acts, DoesAs, HostRuns, ends, moves, HostRounds, anything}
+use Rattle.krl_progress.proofs.MakesRounds.{Quiet, ticked as tick, handed}
 use Rattle.krl_progress.proofs.HostActs.{past, low, message_left, get_some, nth_of, cancel, any, Alike, rests, sits, commanded, ticked, started, crashed, not_down, delivers_one, heard}
 
 -- At first these messages are under way, and those were sent in the world; what is new since is new in both
@@ -212,6 +213,43 @@ module _ (P S : List Message) (has : Has P S) where
       at_host w u made more now h x new writes seen runs (λ s.
       none_made u (world w x new writes) more now writes y new d.0 (record { up = refl; made_is = d.1 ∙ s.made_is; left = s.left; waits = λ z i. s.waits z (among z i) }) refl)
   one w v made more now crashes r d h new writes seen = absurd d
+
+  -- What stays so in the world in quiet steps: then the host's run is one in which it holds
+
+  module _ (Q Inv : State → Type 0) (goes : (u v : State) (s : Step) (answer : Answer) → Quiet s → Inv u → Takes u s answer v → Inv v) (says : (u : State) → Inv u → Q u) (same : (u : State) (sent : List Message) (writes : List AppliedWrite) → Q u → Q (record u { sent = sent; writes = writes })) where
+    pub record Stays (w : HostWorld) (made : List Message) (steps : List Step) (v : HostWorld) (all : List Message) : Type 0 where
+      pub run : HostRuns Q w made steps v all
+      pub host : Host
+      pub new : List Message
+      pub writes : List AppliedWrite
+      pub seen : Seen v all host new
+      pub stays : Inv (world v host new writes)
+
+    quiet_there : (s : Step) → Quiet s → Quiet (as_there s)
+    quiet_there _ (tick c) = tick c
+    quiet_there _ (handed j) = handed (there j)
+
+    first : (w x v : HostWorld) (made more all : List Message) (now later : List Step) (m : Moves w x) → DoesAs w x m made now more → (h : Host) (new : List Message) (writes : List AppliedWrite) → Seen x more h new → Inv (world x h new writes) → Stays x more later v all → Stays w made (now ++ later) v all
+    first w x v made more all now later m d h new writes seen i r = record {
+      run = moves w x v made more all now later m d (subst (λ o. Q (record x.world { server = in_memory o x.world.server })) (sym seen.up) (same (world x h new writes) x.world.sent x.world.writes (says (world x h new writes) i))) r.run;
+      host = r.host;
+      new = r.new;
+      writes = r.writes;
+      seen = r.seen;
+      stays = r.stays;
+    }
+
+    after : (u : State) (w x v : HostWorld) (made more all : List Message) (writes : List AppliedWrite) (now later : List Step) → Made u x more writes now → Inv u → ((s : Step) → In s (now ++ later) → Quiet s) → (m : Moves w x) → DoesAs w x m made now more → ((h : Host) (new : List Message) (written : List AppliedWrite) → Seen x more h new → Inv (world x h new written) → Stays x more later v all) → Stays w made (now ++ later) v all
+    after u w x v made more all writes now later (still h new seen is) i quiet m d rest = let j = subst Inv is i in first w x v made more all [] later m d h new writes seen j (rest h new writes seen j)
+    after u w x v made more all writes now later (taken s answer h new written seen t) i quiet m d rest =
+        let j = goes u (world x h new written) (as_there s) answer (quiet_there s (quiet s (inl refl))) i t in
+        first w x v made more all (s ∷ []) later m d h new written seen j (rest h new written seen j)
+
+    pub stays_through : (w v : HostWorld) (made all : List Message) (steps : List Step) → HostRuns anything w made steps v all → IsReached w → ((s : Step) → In s steps → Quiet s) → (h : Host) (new : List Message) (writes : List AppliedWrite) → Seen w made h new → Inv (world w h new writes) → Stays w made steps v all
+    stays_through w v made all steps (ends x xs) r quiet h new writes seen i = record { run = ends x xs; host = h; new = new; writes = writes; seen = seen; stays = i }
+    stays_through w v made all steps (moves x u y xs more ys now later m d q rest) r quiet h new writes seen i =
+        after (world x h new writes) x u y xs more ys writes now later (one x u xs more now m r d h new writes seen) i quiet m d
+        (λ h2 new2 writes2 seen2 i2. stays_through u y more ys later rest (moved x u r m) (λ s k. quiet s (in_right now later s k)) h2 new2 writes2 seen2 i2)
 
   -- Runs
 

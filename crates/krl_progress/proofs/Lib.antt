@@ -53,4 +53,5 @@ pub mod HostActs
 pub mod HostShows
 pub mod HostProgress
 pub mod HostMakes
+pub mod HostQuiet
 mod Names

@@ -1,6 +1,6 @@
 -- Undisturbed rounds can be made: ticks and deliveries ask for no more, and bring a client no more pushes than it is owed.
 use Rattle.krl_progress.proofs.Names.{◌≡◌, ◌≢◌, ℕ, zero, suc, ◌+◌, ◌≤◌, ◌<◌, inl, inr, ◌∙◌, false, Option, Some, None, is_some, List, [], ◌∷◌, length, refl, sym, ap, subst, arith, nat_eq, if◌then◌else◌, eq-eqb, ne_eqb, END, In, all_follow}
-use Rattle.krl_progress.proofs.Names.{ToServer, ToClient, Client, Message, Server, Step, Answer, ServerPlace, Up, Down, State, ClientPlace, client_of, with_client, message_at, ServerReads, ClientReads, Delivers, Runs, Takes}
+use Rattle.krl_progress.proofs.Names.{ToServer, ToClient, Client, Message, Server, Step, Answer, ServerPlace, Up, Down, State, ClientPlace, client_of, with_client, message_at, ServerReads, ClientReads, Delivers, Runs, Takes, IsReachable}
 use Rattle.krl_modes.specs.Spans.{Bounds}
 use Rattle.krl_messages.specs.declared.to_client.PushBody.{PushBody}
 use Rattle.krl_messages.specs.declared.to_client.PushBody.TheVariants as push
@@ -13,7 +13,7 @@ use Rattle.krl_world.proofs.Progress.CanGoOn.{can_go_on}
 use Rattle.krl_world.proofs.Refinement.Taken.{at_in}
 use Rattle.krl_progress.specs.Requests.{IsAwaited}
 use Rattle.krl_progress.specs.Blocks.{Throughout, RoundsWhile}
-use Rattle.krl_progress.specs.Locks.{AsksNoMore, HasRoom, UndisturbedRoundsCanBeMade}
+use Rattle.krl_progress.specs.Locks.{IsUndisturbed, IsManned, AsksNoMore, HasRoom, UndisturbedRoundsCanBeMade}
 use Rattle.krl_progress.proofs.Standings.{standing}
 use Rattle.krl_progress.proofs.Seated.{not_waiting_on}
 use Rattle.krl_progress.proofs.Doings.{Goes, same, locks, adopts, accepts, WriteGoes, client_goes, reads_write, reads_number, accepted_same}
@@ -21,8 +21,8 @@ use Rattle.krl_progress.proofs.Awaited.{accepted_seen}
 use Rattle.krl_progress.proofs.Answering.{came}
 use Rattle.krl_progress.proofs.Owing.{count, count_low, no_more, accepted_pays, at_place}
 use Rattle.krl_progress.proofs.Recovers.{same_up, next_reachable}
-use Rattle.krl_progress.proofs.MakesRounds.{Good, ticks, delivers, good_stays, good_allowed, good_kept, round_steps, all_good, is_round}
-use Rattle.krl_progress.proofs.Manned.{Lasts, first, lasts_on, undisturbed, rounds_last}
+use Rattle.krl_progress.proofs.MakesRounds.{Quiet, ticked, handed, quiet_stays, Good, good_quiet, good_allowed, good_kept, round_steps, all_good, is_round}
+use Rattle.krl_progress.proofs.Manned.{Lasts, first, lasts_on, undisturbed}
 
 -- A message that a client reads leaves its pins, and asks for no lock
 
@@ -121,9 +121,9 @@ module _ (e : ℕ) (reqs writes : ℕ → ℕ) where
     delivers_stay (Some (message.ToServer m)) at d = read_stays m u.server d
     delivers_stay (Some (message.ToClient m)) at d = client_stays m (client_of u m.client) refl (at (message.ToClient m) refl) d
 
-    good_stay : (s : Step) (answer : Answer) → Good u s → Takes u s answer v → AllStay v
-    good_stay _ answer (ticks c k i) t = let d = t.1.1 in place_stay c d.0 _ d.2.2 (all c d.0 d.1)
-    good_stay _ answer (delivers i m is) t = delivers_stay (message_at u.sent i) (at_in u.sent i) t.1.1
+    step_stay : (s : Step) (answer : Answer) → Quiet s → Takes u s answer v → AllStay v
+    step_stay _ answer (ticked c) t = let d = t.1.1 in place_stay c d.0 _ d.2.2 (all c d.0 d.1)
+    step_stay _ answer (handed i) t = delivers_stay (message_at u.sent i) (at_in u.sent i) t.1.1
 
   -- a client that stays so asks for no more
   asks_no_more : (u : State) (h : Lasts u) → h.server.durable.epoch ≡ e → AllStay u → AsksNoMore reqs writes u
@@ -132,73 +132,88 @@ module _ (e : ℕ) (reqs writes : ℕ → ℕ) where
       let own : k.epoch ≡ e = here ∙ ap (λ (y : Server). y.durable.epoch) (same_up s h.server (sym up ∙ h.up)) ∙ now in
       record { asked = x.request own; written = x.written; unpinned = x.unpinned; room = (let y = x.room own in omega (arith, y)) }
 
+  -- A world that stays undisturbed in quiet steps
+
+  pub record Rests (u : State) : Type 0 where
+    lasts : Lasts u
+    now : lasts.server.durable.epoch ≡ e
+    all : AllStay u
+
+  same_epoch : (u v : State) (h : Lasts u) (g : Lasts v) → Rattle.krl_progress.proofs.Recovers.GoesOn h.server v → h.server.durable.epoch ≡ e → g.server.durable.epoch ≡ e
+  same_epoch u v h g x now = ap (λ (y : Server). y.durable.epoch) (same_up g.server x.after (sym g.up ∙ x.up)) ∙ x.epoch ∙ now
+
+  pub rests_on : (u v : State) (s : Step) (answer : Answer) → Quiet s → Rests u → Takes u s answer v → Rests v
+  rests_on u v s answer quiet h t =
+      let calm = quiet_stays s quiet in
+      let next = lasts_on u v s answer calm t h.lasts in
+      let later = same_epoch u v h.lasts next (Rattle.krl_progress.proofs.Recovers.server_goes_on u v h.lasts.server s calm h.lasts.up (Rattle.krl_world.proofs.Refinement.ServerMoves.way u v s answer t.1)) h.now in
+      record { lasts = next; now = later; all = step_stay u v h.lasts h.now next later h.all s answer quiet t }
+
+  pub is_undisturbed : (u : State) → Rests u → IsUndisturbed reqs writes u
+  is_undisturbed u h = undisturbed reqs writes u h.lasts (asks_no_more u h.lasts h.now h.all)
+
   -- Rounds
 
   record Made (steps : List Step) (u : State) : Type 0 where
     end : State
     run : Runs u steps end
-    quiet : Throughout (AsksNoMore reqs writes) u steps end run
-    lasts : Lasts end
-    now : lasts.server.durable.epoch ≡ e
-    all : AllStay end
+    quiet : Throughout (IsUndisturbed reqs writes) u steps end run
+    rests : Rests end
 
-  same_epoch : (u v : State) (h : Lasts u) (g : Lasts v) → Rattle.krl_progress.proofs.Recovers.GoesOn h.server v → h.server.durable.epoch ≡ e → g.server.durable.epoch ≡ e
-  same_epoch u v h g x now = ap (λ (y : Server). y.durable.epoch) (same_up g.server x.after (sym g.up ∙ x.up)) ∙ x.epoch ∙ now
-
-  makes : (steps : List Step) (u : State) (h : Lasts u) → h.server.durable.epoch ≡ e → AllStay u → ((s : Step) → In s steps → Good u s) → Made steps u
-  makes [] u h now all g = record { end = u; run = refl; quiet = refl; lasts = h; now = now; all = all }
-  makes (s ∷ steps) u h now all g =
+  makes : (steps : List Step) (u : State) → Rests u → ((s : Step) → In s steps → Good u s) → Made steps u
+  makes [] u h g = record { end = u; run = refl; quiet = refl; rests = h }
+  makes (s ∷ steps) u h g =
       let here = g s (inl refl) in
-      let calm = good_stays u s here in
-      let t = can_go_on all_follow u h.reached s (good_allowed u s h.reached here) in
-      let next = lasts_on u t.1 s t.0 calm t.2 h in
-      let later = same_epoch u t.1 h next (Rattle.krl_progress.proofs.Recovers.server_goes_on u t.1 h.server s calm h.up (Rattle.krl_world.proofs.Refinement.ServerMoves.way u t.1 s t.0 t.2.1)) now in
-      let stay = good_stay u t.1 h now next later all s t.0 here t.2 in
-      let rest = makes steps t.1 next later stay (λ x i. good_kept u t.1 s x t.0 calm t.2 (g x (inr i))) in
+      let quiet = good_quiet u s here in
+      let t = can_go_on all_follow u h.lasts.reached s (good_allowed u s h.lasts.reached here) in
+      let next = rests_on u t.1 s t.0 quiet h t.2 in
+      let rest = makes steps t.1 next (λ x i. good_kept u t.1 s x t.0 (quiet_stays s quiet) t.2 (g x (inr i))) in
       record {
         end = rest.end;
         run = (t.0, t.1, t.2, rest.run);
-        quiet = (asks_no_more t.1 next later stay, rest.quiet);
-        lasts = rest.lasts;
-        now = rest.now;
-        all = rest.all;
+        quiet = (is_undisturbed t.1 next, rest.quiet);
+        rests = rest.rests;
       }
 
-  rounds : (n from : ℕ) (u : State) (h : Lasts u) → h.server.durable.epoch ≡ e → AllStay u → (v : State) × RoundsWhile (AsksNoMore reqs writes) n from u v
-  rounds zero from u h now all = (u, refl)
-  rounds (suc n) from u h now all =
-      let made = makes (round_steps u) u h now all (all_good u) in
-      let rest = rounds n (length u.sent) made.end made.lasts made.now made.all in
-      (rest.0, (round_steps u, made.end, is_round u from h.reached, made.run, made.quiet, rest.1))
+  rounds : (n from : ℕ) (u : State) → Rests u → (v : State) × RoundsWhile (IsUndisturbed reqs writes) n from u v
+  rounds zero from u h = (u, refl)
+  rounds (suc n) from u h =
+      let made = makes (round_steps u) u h (all_good u) in
+      let rest = rounds n (length u.sent) made.end made.rests in
+      (rest.0, (round_steps u, made.end, is_round u from h.lasts.reached, made.run, made.quiet, rest.1))
 
 -- The first world
 
-request_by : ℕ → Option Client → ℕ
+pub request_by : ℕ → Option Client → ℕ
 request_by e None = 0
 request_by e (Some k) = if nat_eq k.epoch e then k.req else 0
 
-writes_by : Option Client → ℕ
+pub writes_by : Option Client → ℕ
 writes_by None = 0
 writes_by (Some k) = k.writes
 
-first_stays : (w : State) (h : Lasts w) → HasRoom w → AllStay h.server.durable.epoch (λ c. request_by h.server.durable.epoch (client_of w c)) (λ c. writes_by (client_of w c)) w
+first_stays : (w : State) (e : ℕ) (h : Lasts w) → h.server.durable.epoch ≡ e → HasRoom w → AllStay e (λ c. request_by e (client_of w c)) (λ c. writes_by (client_of w c)) w
 unfolding request_by writes_by
-first_stays w h free c k i =
-    let e = h.server.durable.epoch in
+first_stays w e h now free c k i =
     let x = free h.server c k h.up i in record {
       request = λ here. sym (ap (request_by e) i ∙ ap (λ b. if b then k.req else 0) (eq-eqb k.epoch e here));
       early = λ away. ap (request_by e) i ∙ ap (λ b. if b then k.req else 0) (ne_eqb k.epoch e away);
       written = sym (ap writes_by i);
       unpinned = x.0;
-      room = λ here. let two = x.1 here in let a = count_low (is_waiting k.asked) in let b = count_low (is_some (outstanding k.written)) in omega (arith, two, a, b);
+      room = λ here. let two = x.1 (here ∙ sym now) in let a = count_low (is_waiting k.asked) in let b = count_low (is_some (outstanding k.written)) in omega (arith, two, a, b);
     }
 
+pub first_rests : (w : State) → IsReachable w → (h : IsManned w) → HasRoom w → let e = h.server.durable.epoch in Rests e (λ c. request_by e (client_of w c)) (λ c. writes_by (client_of w c)) w
+first_rests w reach h free =
+    let lasts = first w reach h in
+    let now = ap (λ (y : Server). y.durable.epoch) (same_up lasts.server h.server (sym lasts.up ∙ h.up)) in
+    record { lasts = lasts; now = now; all = first_stays w h.server.durable.epoch lasts now free }
+
 pub undisturbed_rounds_can_be_made : UndisturbedRoundsCanBeMade
-undisturbed_rounds_can_be_made w n rw manned free =
-    let h = first w rw manned in
+undisturbed_rounds_can_be_made w n reach h free =
     let e = h.server.durable.epoch in
     let reqs = λ (c : ℕ). request_by e (client_of w c) in
     let writes = λ (c : ℕ). writes_by (client_of w c) in
-    let all = first_stays w h free in
-    let made = rounds e reqs writes n (length w.sent) w h refl all in
-    (reqs, writes, made.0, undisturbed reqs writes w h (asks_no_more e reqs writes w h refl all), rounds_last reqs writes n (length w.sent) w made.0 h made.1)
+    let rests = first_rests w reach h free in
+    let made = rounds e reqs writes n (length w.sent) w rests in
+    (reqs, writes, made.0, is_undisturbed e reqs writes w rests, made.1)

@@ -1,10 +1,10 @@
 -- A client waits for a lock in undisturbed rounds, and is answered.
 use Rattle.krl_progress.proofs.Names.{◌≡◌, ◌≢◌, ℕ, suc, ◌<◌, ◌∙◌, Bool, true, false, nat_eq, if◌then◌else◌, ne_eqb, eq_cases, Option, Some, None, List, [], ◌∷◌, length, refl, sym, ap, subst, arith, same_Some, END}
-use Rattle.krl_progress.proofs.Names.{begun, ClientPlace, never_started, Client, Server, Record, record_of, Step, State, unused, fresh, opened, client_of, with_client, Takes, IsReachable, locked}
+use Rattle.krl_progress.proofs.Names.{begun, ClientPlace, never_started, Client, Server, Record, record_of, Step, Up, State, unused, fresh, opened, client_of, with_client, Takes, IsReachable, locked}
 use Rattle.krl_modes.specs.declared.mode.Mode.TheVariants as mode
 use Rattle.krl_modes.specs.Spans.{Bounds}
 use Rattle.krl_durable.specs.Registers.{new_record}
-use Rattle.krl_client.specs.Clients.{meets_pin}
+use Rattle.krl_client.specs.Clients.{is_waiting, meets_pin}
 use Rattle.krl_steps.specs.declared.step.Step.TheVariants as step
 use Rattle.krl_steps.specs.declared.step.Command.TheVariants as command
 use Rattle.krl_steps.specs.declared.answer.Answer.TheVariants as answered
@@ -17,7 +17,7 @@ use Rattle.krl_progress.specs.Locks.{IsUndisturbed, IsManned, HasRoom, SomebodyI
 use Rattle.krl_progress.proofs.Recovers.{same_up}
 use Rattle.krl_progress.proofs.Standings.{standing}
 use Rattle.krl_progress.proofs.CallsBack.{in_order}
-use Rattle.krl_progress.proofs.FirstBlocks.{rounds_end}
+use Rattle.krl_progress.specs.Blocks.{RoundsWhile}
 use Rattle.krl_progress.proofs.Calming.{forget}
 use Rattle.krl_progress.proofs.Growing.{rounds_grow}
 use Rattle.krl_progress.proofs.Paying.{IsGood, rounds_low}
@@ -58,14 +58,9 @@ nobody_else : (c : ℕ) → c ≢ 0 → client_of w4 c ≡ None
 unfolding opened
 nobody_else c ne = ap (λ (t : Bool). (if t then asks_at else (if t then joins_at else (if t then begins else never_started (unused two) c))).client) (ne_eqb c 0 ne)
 
-alone : (c : ℕ) (k : Client) → client_of w4 c ≡ Some k → (c ≡ 0) × (k ≡ k2)
-unfolding opened
-alone c k e = eq_cases c 0
-    (λ z. (z, sym (same_Some k2 k (ap (λ d. client_of w4 d) (sym z) ∙ e))))
-    (λ ne. absurd (let bad : None ≡ Some k = sym (nobody_else c ne) ∙ e in cc))
+-- Only this client runs, and the server has registered it: nobody holds or waits for anything there
 
--- and nobody holds or waits for anything at the server
-nobody : (c : ℕ) → HasPart (joined m) c → ⊥
+pub nobody : (c : ℕ) → HasPart (joined m) c → ⊥
 nobody c (holds n ne) = ne (by_test (nat_eq c 0))
   where
     by_test : (t : Bool) → (if t then mode.N else mode.N) ≡ mode.N
@@ -73,60 +68,77 @@ nobody c (holds n ne) = ne (by_test (nat_eq c 0))
     by_test false = refl
 nobody c (waits n u i e) = i
 
-registered : (c : ℕ) (r : Record) → record_of (joined m).durable.register c ≡ Some r → r.left ≡ false → (k : Client) × (client_of w4 c ≡ Some k) × (k.incarnation ≡ r.incarnation)
-unfolding opened
-registered c r e here = eq_cases c 0
-    (λ z. (k2, ap (λ d. client_of w4 d) z, ap (λ (x : Record). x.incarnation) (same_Some (new_record 1) r (ap (λ d. record_of (joined m).durable.register d) (sym z) ∙ e))))
-    (λ ne. absurd (let bad : None ≡ Some r = sym (ap (λ (t : Bool). let x : Option Record = if t then Some (new_record 1) else None in x) (ne_eqb c 0 ne)) ∙ e in cc))
+module _ (u : State) (k : Client) (up : u.server ≡ Up (joined m)) (first : k.incarnation ≡ 1) (is : client_of u 0 ≡ Some k) (others : (c : ℕ) → c ≢ 0 → client_of u c ≡ None) where
+  alone : (c : ℕ) (l : Client) → client_of u c ≡ Some l → l ≡ k
+  alone c l e = eq_cases c 0
+      (λ z. sym (same_Some k l (sym is ∙ ap (λ d. client_of u d) (sym z) ∙ e)))
+      (λ ne. absurd (let bad : None ≡ Some l = sym (others c ne) ∙ e in cc))
 
-manned : IsManned w4
-unfolding opened
-manned = record {
-  server = joined m;
-  up = refl;
-  serves = refl;
-  here = λ d p. absurd (nobody d p);
-  registered = registered;
-}
+  registered : (c : ℕ) (r : Record) → record_of (joined m).durable.register c ≡ Some r → (l : Client) × (client_of u c ≡ Some l) × (l.incarnation ≡ r.incarnation)
+  registered c r e = eq_cases c 0
+      (λ z. (k, ap (λ d. client_of u d) z ∙ is, first ∙ ap (λ (x : Record). x.incarnation) (same_Some (new_record 1) r (ap (λ d. record_of (joined m).durable.register d) (sym z) ∙ e))))
+      (λ ne. absurd (let bad : None ≡ Some r = sym (ap (λ (t : Bool). let x : Option Record = if t then Some (new_record 1) else None in x) (ne_eqb c 0 ne)) ∙ e in cc))
 
-has_room : HasRoom w4
-has_room s c k up e = let a = alone c k e in subst (λ (x : Client). ((span : Bounds) → meets_pin x span ≡ false) × (x.epoch ≡ s.durable.epoch → suc (suc x.seen) < END)) (sym a.1) ((λ span. refl), (λ now. omega arith))
+  pub manned : IsManned u
+  manned = record {
+    server = joined m;
+    up = up;
+    serves = refl;
+    here = λ d p. absurd (nobody d p);
+    registered = λ c r e here. registered c r e;
+  }
+
+  pub has_room : ((span : Bounds) → meets_pin k span ≡ false) → suc (suc k.seen) < END → HasRoom u
+  has_room unpinned room s c l at e = subst (λ (x : Client). ((span : Bounds) → meets_pin x span ≡ false) × (x.epoch ≡ s.durable.epoch → suc (suc x.seen) < END)) (sym (alone c l e)) (unpinned, (λ now. room))
+
+-- In such rounds
+
+-- the client of this number runs on, and the request of k is answered
+pub record IsAnswered (v : State) (c : ℕ) (k : Client) : Type 0 where
+  pub client : Client
+  pub runs : client_of v c ≡ Some client
+  pub same : client.req ≡ k.req
+  pub no_longer : is_waiting client.asked ≡ false
+
+pub answered_in : (reqs writes : ℕ → ℕ) (w v : State) (c : ℕ) (k : Client) → IsReachable w → (u : IsUndisturbed reqs writes w) → client_of w c ≡ Some k → k.epoch ≡ u.server.durable.epoch → RoundsWhile (IsUndisturbed reqs writes) 1161 (length w.sent) w v → IsAnswered v c k
+answered_in reqs writes w v c k reach u runs mine rounds =
+    let on = rounds_grow 1161 (length w.sent) w v c k runs (forget (IsUndisturbed reqs writes) 1161 (length w.sent) w v rounds) in
+    let e = u.server.durable.epoch in
+    let some = (in_order w u.server reach u.up).0.begun in
+    let first : IsGood e reqs writes some w = record { reached = reach; alone = u; now = refl } in
+    let good = (rounds_low e reqs writes some 1161 (length w.sent) w v first rounds).0 in
+    let server = good.alone.server in
+    let low = on.grows.epoch in
+    let high = (standing v server c on.client good.reached good.alone.up on.runs).epoch in
+    let now = good.now in
+    let joined : on.client.epoch ≡ server.durable.epoch = omega (arith, mine, low, high, now) in
+    record {
+      client = on.client;
+      runs = on.runs;
+      same = (good.alone.undisturbed c on.client on.runs joined).asked ∙ sym (u.undisturbed c k runs mine).asked;
+      no_longer = locks_are_answered reqs writes w v server c on.client reach u rounds good.alone.up on.runs joined;
+    }
 
 pub somebody_is_answered : SomebodyIsAnswered
 unfolding opened
 somebody_is_answered =
-    let made = undisturbed_rounds_can_be_made w4 1161 reached manned has_room in
-    let reqs = made.0 in
-    let writes = made.1 in
-    let v = made.2 in
+    let made = undisturbed_rounds_can_be_made w4 1161 reached (manned w4 k2 refl refl refl nobody_else) (has_room w4 k2 refl refl refl nobody_else (λ span. refl) (omega arith)) in
     let u = made.3 in
-    let rounds = made.4 in
-    let last = rounds_end (IsUndisturbed reqs writes) 1161 (length w4.sent) w4 v reached u rounds in
-    let on = rounds_grow 1161 (length w4.sent) w4 v 0 k2 refl (forget (IsUndisturbed reqs writes) 1161 (length w4.sent) w4 v rounds) in
-    let e = u.server.durable.epoch in
-    let one : e ≡ 1 = ap (λ (y : Server). y.durable.epoch) (same_up u.server (joined m) (sym u.up)) in
-    let some = (in_order w4 u.server reached u.up).0.begun in
-    let first : IsGood e reqs writes some w4 = record { reached = reached; alone = u; now = refl } in
-    let good = (rounds_low e reqs writes some 1161 (length w4.sent) w4 v first rounds).0 in
-    let server = good.alone.server in
-    let stands = standing v server 0 on.client good.reached good.alone.up on.runs in
-    let low = on.grows.epoch in
-    let high = stands.epoch in
-    let now = good.now in
-    let joined : on.client.epoch ≡ server.durable.epoch = omega (arith, one, low, high, now) in
+    let mine = ap (λ (y : Server). y.durable.epoch) (same_up (joined m) u.server u.up) in
+    let a = answered_in made.0 made.1 w4 made.2 0 k2 reached u refl mine made.4 in
     record {
-      reqs = reqs;
-      writes = writes;
+      reqs = made.0;
+      writes = made.1;
       before = w4;
       reached = reached;
       undisturbed = u;
       waiter = k2;
       runs = refl;
       waits = refl;
-      after = v;
-      rounds = rounds;
-      answered = on.client;
-      runs_on = on.runs;
-      same_request = (good.alone.undisturbed 0 on.client on.runs joined).asked ∙ sym (u.undisturbed 0 k2 refl (sym one)).asked;
-      no_longer = locks_are_answered reqs writes w4 v server 0 on.client reached u rounds good.alone.up on.runs joined;
+      after = made.2;
+      rounds = made.4;
+      answered = a.client;
+      runs_on = a.runs;
+      same_request = a.same;
+      no_longer = a.no_longer;
     }

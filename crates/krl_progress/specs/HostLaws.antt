@@ -9,7 +9,7 @@ use Rattle.krl_world.specs.Shown.{is_serving}
 use Rattle.krl_host_laws.specs.Hosts.{Host, HostWorld, IsReached}
 use Rattle.krl_progress.specs.Laws.{MissingRun}
 use Rattle.krl_progress.specs.Writes.{HasAskedNoMore}
-use Rattle.krl_progress.specs.Locks.{IsUndisturbed}
+use Rattle.krl_progress.specs.Locks.{IsManned, IsUndisturbed, HasRoom}
 use Rattle.krl_progress.specs.HostRounds.{ahead, GoodRounds, anything}
 
 -- a recovery ends in n rounds, if the host runs, and each client whose report its server misses
@@ -45,3 +45,27 @@ HostAnswersLocksIn n =
 abbrev pub HostRoundsCanBeMade : Type 0
 HostRoundsCanBeMade = (w : HostWorld) (h : Host) (n : ℕ) → IsReached w → w.host ≡ Some h →
     (v : HostWorld) × GoodRounds anything n w v
+
+-- From each manned world of hosts with room undisturbed good rounds can be made, as many as you like.
+abbrev pub HostUndisturbedRoundsCanBeMade : Type 0
+HostUndisturbedRoundsCanBeMade =
+    (w : HostWorld) (n : ℕ) → IsReached w → IsManned (ahead w) → HasRoom (ahead w) →
+    (reqs : ℕ → ℕ) × (writes : ℕ → ℕ) × (v : HostWorld) × IsUndisturbed reqs writes (ahead w)
+    × GoodRounds (IsUndisturbed reqs writes) n w v
+
+-- A client waits for a lock in such rounds, and when they end its request is answered.
+pub record HostAnswersSomebody : Type 0 where
+  pub reqs : ℕ → ℕ
+  pub writes : ℕ → ℕ
+  pub before : HostWorld
+  pub reached : IsReached before
+  pub undisturbed : IsUndisturbed reqs writes (ahead before)
+  pub waiter : Client
+  pub runs : client_of before.world 0 ≡ Some waiter
+  pub waits : is_waiting waiter.asked ≡ true
+  pub after : HostWorld
+  pub rounds : GoodRounds (IsUndisturbed reqs writes) 1161 before after
+  pub answered : Client
+  pub runs_on : client_of after.world 0 ≡ Some answered
+  pub same_request : answered.req ≡ waiter.req
+  pub no_longer : is_waiting answered.asked ≡ false

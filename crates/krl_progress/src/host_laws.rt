@@ -3,6 +3,7 @@
 ghost use Rattle.krl_progress.specs.HostLaws.{HostRecoveryEndsIn, HostAnswersWritesIn};
 ghost use Rattle.krl_progress.specs.HostLaws.{HostWritesOutlastRecoveriesIn, HostAnswersLocksIn};
 ghost use Rattle.krl_progress.specs.HostLaws.{HostRoundsCanBeMade};
+ghost use Rattle.krl_progress.specs.HostLaws.{HostUndisturbedRoundsCanBeMade, HostAnswersSomebody};
 
 /// After any past: if the host runs, and each client whose report its server misses, the server
 /// serves after five good rounds.
@@ -33,4 +34,15 @@ pub fn locks_are_answered()
 /// host runs.
 pub fn rounds_can_be_made()
     ensures { HostRoundsCanBeMade }
+{}
+
+/// From each manned world of hosts with room undisturbed good rounds can be made, as many as you
+/// like.
+pub fn undisturbed_rounds_can_be_made()
+    ensures { HostUndisturbedRoundsCanBeMade }
+{}
+
+/// Somebody waits for a lock in such rounds of a host, and is answered.
+pub fn somebody_is_answered()
+    ensures { HostAnswersSomebody }
 {}
