@@ -50,7 +50,7 @@ function shownNow() {
     script: lines, place, points: points.map((it) => it.name), fault: texts("#fault")[0], verdict: texts("#verdict")[0],
     parts: drawn("rect").filter((it) => /^[SUIX]$/.test(it.getAttribute("class"))).map(partOf).sort(),
     printed: texts("#lines .out").map((it) => it.replace("→ ", "")), entries: texts("#number-line text.entry"),
-    waiting: texts("#waiting .what").map((it) => parseInt(it, 10)),
+    waiting: texts("#waiting .what").map((it) => parseInt(it, 10)), ways: texts("#waiting .way"),
     nodes: [...document.querySelectorAll("#nodes li b")].map((it) => [it.textContent, it.nextSibling.textContent]),
   };
 }
@@ -155,6 +155,7 @@ async function stepThroughExamples() {
 async function loseACallback() {
   await open();
   await press("header a");
+  same("the way of a callback", (await shown()).ways, ["server → client 0"]);
   await press("#waiting [aria-label^='lose message']");
   await press("#ask button");
   same("the scan after a lost callback", (await compare("a lost callback")).printed.at(-1), "rows 10=1");
