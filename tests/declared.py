@@ -172,15 +172,9 @@ class Declared:
 
     def page(self):
         """The text of the page."""
-        crates = itertools.groupby(self.shown, key=lambda it: it[0][0])
-        return HEAD + "".join(self.section(*it) for it in crates) + TABLE + "".join(self.rows())
-
-    @staticmethod
-    def section(crate, shown):
-        """The declarations of a crate."""
-        files = itertools.groupby(shown, key=lambda it: it[0][1])
-        blocks = [f"// src/{file}.rt\n" + "".join(block(*it) for _, it in items) for file, items in files]
-        return f"\n## `{crate}`\n\n```rust\n" + "\n".join(blocks) + "```\n"
+        files = itertools.groupby(self.shown, key=lambda it: it[0][:2])
+        blocks = (f"// {crate}/src/{file}.rt\n" + "".join(block(*it) for _, it in its) for (crate, file), its in files)
+        return HEAD + "\n```rust\n" + "".join(blocks) + "```\n" + TABLE + "".join(self.rows())
 
     def rows(self):
         """What stands for each other type, a row each."""
