@@ -1,9 +1,9 @@
 # Part of the launcher, ./krl, which reads it: how the server, the client and the simulator are built and run.
 # shellcheck shell=sh disable=SC2154
 
-# What they are made of, and where cargo leaves them.
+# What is written when the library is made, and where cargo leaves the programs.
 proved=$top/crates/krl_embed/out/libkrl_embed.a
-committed=$top/hosts/rust/rules/x86_64-linux.s
+committed=$top/hosts/rust/rules/RECORD
 target=${CARGO_TARGET_DIR-$top/hosts/target}
 first=$target/first
 requirements=$top/hosts/packaging/requirements
@@ -146,9 +146,10 @@ build_simulator() {
         say "there is no C compiler '$compiler', and the simulator needs one: Debian's packages gcc and libc6-dev"
         exit 1
     }
+    assembly=$(CC=$compiler "$top/hosts/packaging/library" assembly krl_simulator) || exit 1
     say "building the simulator over $made_of_what"
     (cd "$top/hosts/simulator" && exec "$compiler" -std=c11 -O2 -I ../../crates/krl_simulator main.c \
-        rules/x86_64-linux.s -o "$work/krl-simulator") >"$work/cc.log" 2>&1 || {
+        "$assembly" -o "$work/krl-simulator") >"$work/cc.log" 2>&1 || {
         tail -n 40 "$work/cc.log" >&2
         say "the simulator is not built; the lines above show why"
         exit 1
@@ -157,8 +158,9 @@ build_simulator() {
     mv "$work/krl-simulator" "$simulator"
 }
 
-# Names in $library the file that cargo links. A library that KRL_LIBRARY names is taken as it is. Otherwise it is the
-# committed one: if a proof is asked for, or if it was made of other sources, it is proved and made first.
+# Names in $library a file that changes with the library that cargo links. One that KRL_LIBRARY names is taken as it is.
+# Otherwise it is the committed one: if a proof is asked for, or if it was made of other sources, it is proved and made
+# first.
 find_library() {
     library=$committed made_of_what=
     if [ -n "${KRL_LIBRARY-}" ]; then

@@ -112,6 +112,7 @@ stand_in id <<'id'
 echo "$USER_ID"
 id
 stand_in cc <<'cc'
+[ "$*" != -dumpmachine ] || { echo x86_64-linux-gnu; exit; }
 [ "$LINKS" = yes ] || { echo 'error: a sentence of the compiler'; exit 1; }
 case "$*" in
 *krl-simulator)

@@ -10,7 +10,7 @@ set -eu
 
 here=$(CDPATH='' cd -- "$(dirname -- "$0")" && pwd)
 top=$here/../..
-[ $# -gt 0 ] || set -- "$top/hosts/rust/rules/x86_64-linux.s"
+[ $# -gt 0 ] || set -- "$("$top/hosts/packaging/library" assembly)"
 work=$(mktemp -d)
 trap 'rm -rf "$work"' EXIT
 for library; do

@@ -33,7 +33,7 @@ set -eu
 
 here=$(CDPATH='' cd -- "$(dirname -- "$0")" && pwd)
 embed=$here/../../crates/krl_embed
-library=${1-$here/../../hosts/rust/rules/x86_64-linux.s}
+library=${1-$("$here/../../hosts/packaging/library" assembly)}
 rounds=${2-5}
 room=$(mktemp -d)
 trap 'rm -rf "$room"' EXIT

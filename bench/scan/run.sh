@@ -11,7 +11,7 @@ set -eu
 top=$(cd "$(dirname "$0")/../.." && pwd)
 room=$(mktemp -d)
 trap 'rm -rf "$room"' EXIT
-[ $# -gt 0 ] || set -- "$top/hosts/rust/rules/x86_64-linux.s"
+[ $# -gt 0 ] || set -- "$("$top/hosts/packaging/library" assembly)"
 
 place=0
 for library; do

@@ -1,7 +1,7 @@
 //! Finds the library of the rules. That is, in this order:
 //!
 //! 1. the static library `libkrl.a` in the folder `KRL_LIBRARY`;
-//! 2. on x86-64 and Linux the committed library in `rules`, as assembly, which
+//! 2. on Linux on x86-64 or AArch64 the committed library in `rules`, as assembly, which
 //!    `src/proved/rules.rs` takes in. In the repository it has to be of the sources in `crates`;
 //! 3. otherwise a library that pkg-config finds.
 use std::env;
@@ -27,7 +27,8 @@ fn main() {
 /// Whether `rules` has a library for the processor and the system that is built for.
 fn has_committed() -> bool {
     let is = |name, value| env::var(format!("CARGO_CFG_TARGET_{name}")).is_ok_and(|it| it == value);
-    is("ARCH", "x86_64") && is("OS", "linux") && is("POINTER_WIDTH", "64")
+    let is_processor = is("ARCH", "x86_64") || is("ARCH", "aarch64") && is("ENDIAN", "little");
+    is_processor && is("OS", "linux") && is("POINTER_WIDTH", "64")
 }
 
 /// Ends the build if the committed library was made of other sources than those of the repository.

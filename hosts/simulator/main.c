@@ -1,7 +1,7 @@
 /* krl-simulator: `krl script` and `krl random` over the proved library krl_simulator, whose assembly is in `rules`.
  * This part reads standard input and writes standard output and standard error; the library does the rest.
  *
- *     cc -std=c11 -I ../../crates/krl_simulator main.c rules/x86_64-linux.s -o krl-simulator
+ *     cc -std=c11 -I ../../crates/krl_simulator main.c rules/$(uname -m)-linux.s -o krl-simulator
  */
 #define _POSIX_C_SOURCE 200809L
 #include <errno.h>
