@@ -12,6 +12,7 @@ abbrev pub part_of : Option Entry → KeyPart
 part_of None = key.N
 part_of (Some e) = e.part
 
+-- and its value
 abbrev pub value_of : Option Entry → Option Value
 value_of None = None
 value_of (Some e) = e.value

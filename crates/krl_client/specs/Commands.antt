@@ -45,8 +45,7 @@ abbrev pub first_reason : List Reason → Option CommandRefused
 first_reason [] = None
 first_reason (r ∷ rs) = if r.holds then Some r.refusal else first_reason rs
 
--- why each command is refused, in the order of judging, memory aside
-
+-- why a lock request is refused: here and below in the order of judging, memory aside
 abbrev pub lock_refusal : Client → ℕ → ℕ → Option CommandRefused
 lock_refusal k point hi =
     first_reason (
@@ -58,6 +57,7 @@ lock_refusal k point hi =
     ∷ []
     )
 
+-- a write by what the client holds
 abbrev pub write_refusal : Client → WriteOp → Option CommandRefused
 write_refusal k change =
     first_reason (
@@ -69,7 +69,7 @@ write_refusal k change =
     ∷ []
     )
 
--- of a write that seizes the lock that it needs. What the client holds matters only to a write that seizes none
+-- a write that seizes the lock that it needs. What the client holds matters only to a write that seizes none
 abbrev pub seize_refusal : Client → WriteOp → Option CommandRefused
 seize_refusal k change =
     first_reason (
@@ -81,9 +81,11 @@ seize_refusal k change =
     ∷ []
     )
 
+-- a scan
 abbrev pub scan_refusal : Bounds → Option CommandRefused
 scan_refusal s = first_reason (due command_refused.BadSpan (not (is_span s)) ∷ [])
 
+-- that a span is given back
 abbrev pub lower_refusal : Client → Bounds → Option CommandRefused
 lower_refusal k s =
     first_reason (
@@ -94,6 +96,7 @@ lower_refusal k s =
     ∷ []
     )
 
+-- a pin
 abbrev pub pin_refusal : Client → Bounds → Option CommandRefused
 pin_refusal k s =
     first_reason (
@@ -102,6 +105,7 @@ pin_refusal k s =
     ∷ []
     )
 
+-- the end of a pin
 abbrev pub unpin_refusal : Client → ℕ → Option CommandRefused
 unpin_refusal k id =
     first_reason (
@@ -122,6 +126,7 @@ start_refusal c incarnation =
 abbrev pub locked : Client → ℕ → ℕ → Mode → Client
 locked k point hi mode = record k { req = suc k.req; asked = Waiting point hi mode }
 
+-- and this asks the server for it
 abbrev pub says_lock : Client → ℕ → ℕ → Mode → ToServer
 says_lock k point hi mode = requests k (asked.Lock k.req point hi mode)
 
@@ -129,12 +134,15 @@ says_lock k point hi mode = requests k (asked.Lock k.req point hi mode)
 abbrev pub issued : Client → WriteOp → Bool → Client
 issued k change seizes = record k { writes = suc k.writes; written = Outstanding change; seizes = seizes }
 
+-- by what the client holds
 abbrev pub wrote : Client → WriteOp → Client
 wrote k change = issued k change false
 
+-- by a lock that it seizes
 abbrev pub seized : Client → WriteOp → Client
 seized k change = issued k change true
 
+-- and this asks the server for it
 abbrev pub says_write : Client → WriteOp → ToServer
 says_write k change = requests k (asked.Write k.writes change k.seizes)
 
@@ -142,6 +150,7 @@ says_write k change = requests k (asked.Write k.writes change k.seizes)
 abbrev pub belief_lowered : Client → Bounds → Mode → Client
 belief_lowered k s keep = record k { belief = lower s keep k.belief }
 
+-- and this tells the server
 abbrev pub says_release : Client → Bounds → Mode → ToServer
 says_release k s keep = requests k (asked.Release s keep)
 
@@ -153,6 +162,7 @@ pinned k s id = record k { pins = with_pin k.pins id (Some s) }
 abbrev pub unpinned : Client → ℕ → Client
 unpinned k id = record k { pins = with_pin k.pins id None }
 
+-- the client leaves
 abbrev pub says_bye : Client → ToServer
 says_bye k = from k said.Bye
 

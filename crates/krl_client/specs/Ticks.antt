@@ -18,6 +18,7 @@ abbrev pub write_again : Client → Option WriteOp → List ToServer
 write_again k None = []
 write_again k (Some change) = says_write k change ∷ []
 
+-- the client asks to join
 abbrev pub says_hello : Client → ToServer
 says_hello k = from k said.Hello
 

@@ -80,10 +80,11 @@ holdings s c (n ∷ ns) = holding s n c ∷ holdings s c ns
 
 -- Changes of the server
 
--- the server with another session of this client, or with other rows
+-- the server with another session of this client
 abbrev pub with_session : Server → ℕ → Session → Server
 with_session s c session = record s { sessions = set_session s.sessions c session }
 
+-- with other rows
 abbrev pub with_rows : Server → Rows → Server
 with_rows s rows = record s { rows = rows }
 
