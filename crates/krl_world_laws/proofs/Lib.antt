@@ -1,4 +1,5 @@
 pub mod Systems
 pub mod Readers
+pub mod Lockless
 pub mod Leases
 pub mod Shards
