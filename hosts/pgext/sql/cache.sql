@@ -1,5 +1,6 @@
 -- Which tables can be cached, and what they have then.
 \set SHOW_CONTEXT never
+SET client_min_messages = warning;
 CREATE EXTENSION krl;
 -- Waits until each worker has joined krl's server, and the mark has their nonce.
 CREATE FUNCTION await_workers() RETURNS void LANGUAGE plpgsql AS $$
