@@ -169,7 +169,7 @@ fn an_option_that_a_variable_sets_is_not_shown_as_missing() {
         (
             &["hold", "1"],
             "<COMMAND>...",
-            "krl-client hold [OPTIONS] <LO..HI|LO> [HI] -- <COMMAND>...\n",
+            "krl-client hold [OPTIONS] <LO..HI|LO HI> -- <COMMAND>...\n",
         ),
     ] {
         let ended = world.run(words);
