@@ -266,7 +266,9 @@ impl TlsSession {
         if self.peer.is_some() {
             return Ok(());
         }
-        if self.shaken == 0 && sealed.first().is_some_and(|kind| *kind != HANDSHAKE) {
+        // A server may begin with an alert.
+        let is_plain = sealed.first().is_some_and(|kind| *kind != HANDSHAKE);
+        if self.check.side == Side::Accepts && self.shaken == 0 && is_plain {
             return self.refuse_what_is_plain();
         }
         self.shaken += sealed.len();

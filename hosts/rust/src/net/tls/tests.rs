@@ -114,6 +114,17 @@ fn a_stranger_sends_little_before_it_identifies_itself() {
 }
 
 #[test]
+fn a_server_may_begin_with_an_alert_and_a_client_may_not() {
+    let (folder, authority) = (Folder::new("alert"), Authority::new("ours"));
+    let three = config(&authority.certify(&folder.0, &["krl:client:3"], 1));
+    let server = config(&authority.certify(&folder.0, &["krl:server"], 1));
+    let alert = [21, 3, 3, 0, 2, 2, 40];
+    let refused = |config, side| TlsSession::new(config, side).unwrap().open(&alert).unwrap_err();
+    assert_eq!(refused(&three, Side::Connects).kind(), ErrorKind::PermissionDenied);
+    assert!(refused(&server, Side::Accepts).to_string().contains("does not speak TLS"));
+}
+
+#[test]
 fn a_key_of_another_certificate_is_refused() {
     let (folder, authority) = (Folder::new("key"), Authority::new("ours"));
     let three = authority.certify(&folder.0, &["krl:client:3"], 1);
